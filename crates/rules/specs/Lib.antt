@@ -1,0 +1,17 @@
+pub mod Sizes
+pub mod Values
+pub mod Samples
+pub mod Sets
+pub mod Waiting
+pub mod Contents
+pub mod Numbers
+pub mod Rows
+pub mod Satisfying
+pub mod Redundancy
+pub mod Settling
+pub mod Declaring
+pub mod Adding
+pub mod Checking
+pub mod Forcing
+pub mod Showing
+pub mod Classifying
