@@ -15,3 +15,6 @@ pub mod Checking
 pub mod Forcing
 pub mod Showing
 pub mod Classifying
+pub mod Condition
+pub mod Demand3
+pub mod Script

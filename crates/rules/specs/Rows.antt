@@ -5,7 +5,7 @@ use mathlib.Core.Option.{Option, none, some}
 use Prim.Native.Nat.{ℕ, zero, suc, _+_, _*_, _-_, _/_, _%_, _^_}
 use lib.IntN.{ℤ, pos, negsuc}
 use lib.Dec.{eqb, ltb, leb}
-use lib.ListN.{length, getD, take, drop}
+use lib.ListN.{length, getD, getElem?, take, drop}
 use Rattle.rules.specs.Sizes.{maxPositions, maxLeft, rowSize, shownSize}
 use Rattle.rules.specs.Values.{Value, Sort, equalValue, validValue, blank}
 use Rattle.rules.specs.Samples.{Position, Sample}
@@ -58,15 +58,9 @@ natural (pos n) = n
 natural (negsuc n) = 0
 
 -- The positions of a predicate number, if it is declared.
-unfoldable pub sortsAt : ℕ → List (List Sort) → Option (List Sort)
-sortsAt p [] = none
-sortsAt zero (d ∷ ds) = some d
-sortsAt (suc p) (d ∷ ds) = sortsAt p ds
-
 unfoldable pub declaredAs : ℤ → List (List Sort) → Option (List Sort)
-unfolding sortsAt
-declaredAs (pos p) ds = sortsAt p ds
-declaredAs (negsuc p) ds = none
+declaredAs (pos p) declared = getElem? declared p
+declaredAs (negsuc p) declared = none
 
 -- 2: the mask is below 0 or has a bit past the positions.
 unfoldable pub maskFits : ℕ → ℤ → Bool
@@ -80,16 +74,11 @@ valueFits none known v = equalValue v blank
 valueFits (some sort) true v = validValue sort v
 valueFits (some sort) false v = equalValue v blank
 
-unfoldable pub sortAt : ℕ → List Sort → Option Sort
-sortAt i [] = none
-sortAt zero (s ∷ ss) = some s
-sortAt (suc i) (s ∷ ss) = sortAt i ss
-
 -- The k positions from i on.
 unfoldable pub valuesFit : List Sort → ℕ → List Value → ℕ → ℕ → Bool
-unfolding valueFits sortAt bit
+unfolding valueFits bit
 valuesFit sorts mask values zero i = true
-valuesFit sorts mask values (suc k) i = valueFits (sortAt i sorts) (bit mask i) (getD values i blank) && valuesFit sorts mask values k (suc i)
+valuesFit sorts mask values (suc k) i = valueFits (getElem? sorts i) (bit mask i) (getD values i blank) && valuesFit sorts mask values k (suc i)
 
 -- The tests of one row, in order: 1, 2, 3.
 unfoldable pub fieldRefusal : Option (List Sort) → Row → Option Refusal

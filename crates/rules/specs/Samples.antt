@@ -4,8 +4,8 @@ use mathlib.Core.List.{List, [], _∷_}
 use mathlib.Core.Option.{Option, none, some}
 use Prim.Native.Nat.{ℕ, zero, suc}
 use lib.Dec.{eqb, ltb}
-use lib.ListN.{length}
-use Rattle.rules.specs.Values.{Value, equalValue, lowerValue}
+use lib.ListN.{length, getD}
+use Rattle.rules.specs.Values.{Value, equalValue, lowerValue, Sort, validValue}
 
 -- A position is unknown (none) or holds a known value.
 abbrev pub Position : Type 0
@@ -14,6 +14,23 @@ Position = Option Value
 pub record Sample : Type 0 where
   pub pred : ℕ
   pub at : List Position
+
+-- A sample is valid if its predicate is declared, with as many positions, and each known value is valid for its position's sort.
+unfoldable pub validAt : Sort → Position → Bool
+unfolding validValue
+validAt sort none = true
+validAt sort (some v) = validValue sort v
+
+unfoldable pub validPositions : List Sort → List Position → Bool
+unfolding validAt
+validPositions [] [] = true
+validPositions [] (x ∷ xs) = false
+validPositions (sort ∷ sorts) [] = false
+validPositions (sort ∷ sorts) (x ∷ xs) = validAt sort x && validPositions sorts xs
+
+unfoldable pub validSample : List (List Sort) → Sample → Bool
+unfolding validPositions
+validSample declared s = ltb (s .pred) (length declared) && validPositions (getD declared (s .pred) []) (s .at)
 
 -- A covers B (same predicate) if at each position A is unknown or both are known and equal.
 unfoldable pub coversAt : Position → Position → Bool

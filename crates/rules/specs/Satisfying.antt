@@ -3,9 +3,10 @@ use mathlib.Core.Path.{_≡_}
 use mathlib.Core.Bool.{Bool, true, false, not, _&&_, _||_}
 use mathlib.Core.List.{List, [], _∷_}
 use mathlib.Core.Option.{Option, none, some}
-use Prim.Native.Nat.{ℕ, zero, suc}
-use Rattle.rules.specs.Values.{Value, Sort, validValue}
-use Rattle.rules.specs.Samples.{Position, Sample, coversAll}
+use Prim.Native.Nat.{ℕ}
+use lib.ListN.{getD}
+use Rattle.rules.specs.Values.{Value, Sort}
+use Rattle.rules.specs.Samples.{Position, Sample, validPositions, coversAll}
 use Rattle.rules.specs.Contents.{Sign, positive, negative, Sides, Constraint, Slot, Held, Contents}
 use Rattle.rules.specs.Rows.{valueOf}
 
@@ -15,19 +16,6 @@ Vector = List Value
 
 abbrev pub Assignment : Type 0
 Assignment = ℕ → Vector → Bool
-
--- A vector of the declared sorts.
-unfoldable pub validVector : List Sort → Vector → Bool
-unfolding validValue
-validVector [] [] = true
-validVector [] (v ∷ vs) = false
-validVector (s ∷ ss) [] = false
-validVector (s ∷ ss) (v ∷ vs) = validValue s v && validVector ss vs
-
-unfoldable pub sortsFor : ℕ → List (List Sort) → List Sort
-sortsFor p [] = []
-sortsFor zero (d ∷ ds) = d
-sortsFor (suc p) (d ∷ ds) = sortsFor p ds
 
 -- The vector as positions, each known; and the vector of a total sample.
 unfoldable pub known : Vector → List Position
@@ -41,7 +29,7 @@ vectorOf (x ∷ xs) = valueOf x ∷ vectorOf xs
 
 -- A completion of a sample: a vector of its predicate's sorts that it covers.
 pub record Completes (declared : List (List Sort)) (s : Sample) (v : Vector) : Type 0 where
-  pub valid : validVector (sortsFor (s .pred) declared) v ≡ true
+  pub valid : validPositions (getD declared (s .pred) []) (known v) ≡ true
   pub covered : coversAll (s .at) (known v) ≡ true
 
 -- Positive: all completions are in. Negative: all are out.
