@@ -1,9 +1,7 @@
 -- The theorems about document 01's definitions.
-pub mod Bools
-pub mod Covering
-pub mod Ordering
-pub mod Sets
-pub mod Questions
-pub mod Worked
-pub mod Refusals
-pub mod Tight
+pub mod Laws
+pub mod Points
+pub mod Calls
+pub mod Kept
+pub mod Same
+pub mod Demand3

@@ -11,9 +11,9 @@ use Rattle.rules.specs.Sets.{any, only, without, member, subset, covered
 use Rattle.rules.specs.Waiting.{isNew, wait}
 use Rattle.rules.specs.Satisfying.{All}
 use Rattle.rules.specs.Condition.{Mem, Rising, Apart}
-use Rattle.rules.proofs.Bools.{both, by-test, and-split, and-join, or-split, or-first, or-second, not-true, refuted}
-use Rattle.rules.proofs.Covering.{covers-refl, same→, same-refl}
-use Rattle.rules.proofs.Ordering.{sample-order, before-not-after}
+use Rattle.rules.proofs.Laws.Bools.{both, by-test, and-split, and-join, or-split, or-first, or-second, not-true, refuted}
+use Rattle.rules.proofs.Laws.Covering.{covers-refl, same→, same-refl}
+use Rattle.rules.proofs.Laws.Ordering.{sample-order, before-not-after}
 
 -- All and membership.
 pub all-mem : (P : Sample → Type 0) (l : List Sample) → All P l → (x : Sample) → Mem x l → P x

@@ -11,7 +11,7 @@ use lib.Dec.{ltb, eqb}
 use borrow.Author.Tests.{ltb-true, ltb-false, lt-ltb, le-ltb, eqb-true, eq-eqb}
 use Rattle.rules.specs.Values.{Value, lowerValue}
 use Rattle.rules.specs.Samples.{Position, Sample, beforeAt, beforeAll, before}
-use Rattle.rules.proofs.Bools.{both, and-split, and-join, or-split, or-second, not-true, refuted}
+use Rattle.rules.proofs.Laws.Bools.{both, and-split, and-join, or-split, or-second, not-true, refuted}
 
 -- A strict total order, as a test.
 pub record StrictOrder (A : Type 0) (less : A → A → Bool) : Type 0 where

@@ -9,7 +9,7 @@ use lib.Dec.{eqb}
 use borrow.Author.Tests.{eqb-true, eq-eqb}
 use Rattle.rules.specs.Values.{Value, equalValue}
 use Rattle.rules.specs.Samples.{Position, Sample, coversAt, coversAll, covers, overlapsAt, overlapsAll, overlaps, same}
-use Rattle.rules.proofs.Bools.{both, same-truth, and-split, and-join}
+use Rattle.rules.proofs.Laws.Bools.{both, same-truth, and-split, and-join}
 
 -- Values: the test is equality.
 pub equal→ : (x y : Value) → equalValue x y ≡ true → x ≡ y

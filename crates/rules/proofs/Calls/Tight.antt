@@ -17,7 +17,7 @@ use Rattle.rules.specs.Classifying.{Class, classify}
 use Rattle.rules.specs.Script.Bytes.{Bytes}
 use Rattle.rules.specs.Script.Running.{script}
 use Rattle.rules.specs.Condition.{Mem, Rising}
-use Rattle.rules.proofs.Sets.{rising-same}
+use Rattle.rules.proofs.Laws.Sets.{rising-same}
 
 -- Any two outcomes that a rule allows, on equal input and equal contents, are equal.
 abbrev pub OneOutcome : {I O : Type 0} → (I → Contents → O) → Type 0

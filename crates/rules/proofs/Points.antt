@@ -1,0 +1,3 @@
+-- The worked points, computed.
+pub mod Questions
+pub mod Worked
