@@ -1,6 +1,7 @@
 -- A new store meets the condition, and every call keeps it.
 pub mod Freeing
 pub mod AfterFreeing
+pub mod EachDraw
 pub mod Irredundant
 pub mod Moving
 pub mod FreeNumbers

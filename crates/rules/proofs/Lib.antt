@@ -1,6 +1,6 @@
 -- The theorems about document 01's definitions.
 pub mod Laws
-pub mod Points
+pub mod ByRunning
 pub mod Calls
 pub mod Kept
 pub mod Same

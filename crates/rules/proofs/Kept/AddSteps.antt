@@ -18,7 +18,8 @@ use Rattle.rules.specs.Satisfying.{All}
 use Rattle.rules.specs.Condition.{Rising, NonEmpty}
 use Rattle.rules.proofs.Laws.Bools.{by-test}
 use Rattle.rules.proofs.Laws.Sets.{all-mem, mem-all, all-sub, append-mem, include-mem, include-rising}
-use Rattle.rules.proofs.Kept.FreeNumbers.{AfterSettling, lowestFree-free}
+use Rattle.rules.proofs.Kept.FreeNumbers.{lowestFree-free}
+use Rattle.rules.proofs.Kept.EachDraw.{AfterSettling}
 
 -- A clause's samples are its left ones and its right one.
 pub parts-all : (P : Sample → Type 0) (k : Clause) → All P (samplesOf k) → All P (k .left) × All P (rightSamples (k .right))

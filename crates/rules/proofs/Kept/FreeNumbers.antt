@@ -15,38 +15,10 @@ use Rattle.rules.specs.Settling.{Fate, untouched, dropped, waits, contra
 use Rattle.rules.specs.Settling.{Drawn, idle, clash, drawn, drawnKept, takenIf, taken, withWaiting, drawFrom, draw}
 use Rattle.rules.specs.Settling.{Settled, contradicted, settled, counting, follow, run, size, settleHeld}
 use Rattle.rules.specs.Adding.{lowestFree}
-use Rattle.rules.proofs.Laws.Bools.{both, by-test}
-
--- What each draw keeps, settling keeps.
-abbrev pub AfterDraw : (Held → Type 0) → Drawn → Type 0
-AfterDraw P idle = Unit
-AfterDraw P clash = Unit
-AfterDraw P (drawn sign wasKept g) = P g
-
-abbrev pub AfterSettling : (Held → Type 0) → Settled → Type 0
-AfterSettling P contradicted = Unit
-AfterSettling P (settled g n) = P g
-
-module _ (P : Held → Type 0) where
-  counting-keeps : (sign : Sign) (wasKept : Bool) (r : Settled) → AfterSettling P r → AfterSettling P (counting sign wasKept r)
-  unfolding counting
-  counting-keeps sign wasKept contradicted p = p
-  counting-keeps sign wasKept (settled g n) p = p
-
-  follow-keeps : (d : Drawn) (h : Held) (more : Held → Settled) → P h → AfterDraw P d → ((g : Held) → P g → AfterSettling P (more g)) → AfterSettling P (follow d h more)
-  unfolding follow
-  follow-keeps idle h more p q f = p
-  follow-keeps clash h more p q f = tt
-  follow-keeps (drawn sign wasKept g) h more p q f = counting-keeps sign wasKept (more g) (f g q)
-
-  pub run-keeps : ((h : Held) → P h → AfterDraw P (draw h)) → (most : ℕ) (h : Held) → P h → AfterSettling P (run most h)
-  unfolding run
-  run-keeps step zero h p = p
-  run-keeps step (suc most) h p = follow-keeps (draw h) h (run most) p (step h p) (run-keeps step most)
-
-  pub settleHeld-keeps : ((h : Held) → P h → AfterDraw P (draw h)) → (h : Held) → P h → AfterSettling P (settleHeld h)
-  unfolding settleHeld
-  settleHeld-keeps step h p = run-keeps step (size h) h p
+use Rattle.rules.proofs.Laws.Bools.{both}
+use Rattle.rules.proofs.Kept.Freeing.{tests-freed}
+use Rattle.rules.proofs.Kept.AfterFreeing.{freed-count}
+use Rattle.rules.proofs.Kept.EachDraw.{AfterDraw, AfterSettling, settleHeld-keeps}
 
 -- y stands where x stood, and lives only if x did.
 count-step : (x y : Slot) (xs ys : List Slot) → (isLive (y .lives) ≡ true → isLive (x .lives) ≡ true) → liveCount ys ≤ liveCount xs
@@ -66,36 +38,6 @@ free-step x xs ys h = count-step x free xs ys (λ e. both e refl) h
 
 same-step : (x : Slot) (xs ys : List Slot) → liveCount ys ≤ liveCount xs → liveCount (x ∷ ys) ≤ liveCount (x ∷ xs)
 same-step x xs ys h = count-step x x xs ys (λ e. e) h
-
--- A test only frees numbers.
-pub free-count : (n : ℕ) (slots : List Slot) → liveCount (set slots n free) ≤ liveCount slots
-free-count n [] = omega arith
-free-count zero (x ∷ xs) = free-step x xs xs (omega arith)
-free-count (suc n) (x ∷ xs) = same-step x xs (set xs n free) (free-count n xs)
-
-dropOthers-count : (c : Constraint) (n i : ℕ) (slots : List Slot) → liveCount (dropOthers c n i slots) ≤ liveCount slots
-unfolding dropOthers
-dropOthers-count c n i [] = omega arith
-dropOthers-count c n i (x ∷ xs) =
-    let rest = dropOthers c n (suc i) xs in
-    let r = dropOthers-count c n (suc i) xs in
-    by-test (λ y. liveCount (y ∷ rest) ≤ liveCount (x ∷ xs)) (not (eqb i n) && needlessSlot c (x .lives)) (λ e. free-step x xs rest r) (λ e. same-step x xs rest r)
-
-testAs-count : (n : ℕ) (o : Option Constraint) (slots : List Slot) → liveCount (testAs n o slots) ≤ liveCount slots
-unfolding testAs
-testAs-count n none slots = omega arith
-testAs-count n (some c) slots =
-    let others = dropOthers c n 0 slots in
-    by-test (λ l. liveCount l ≤ liveCount slots) (anyInside c others) (λ e. omega (arith, free-count n others, dropOthers-count c n 0 slots)) (λ e. dropOthers-count c n 0 slots)
-
-pub test-count : (n : ℕ) (slots : List Slot) → liveCount (test n slots) ≤ liveCount slots
-unfolding test
-test-count n slots = testAs-count n (livesAt n slots) slots
-
-pub tests-count : (ns : List ℕ) (slots : List Slot) → liveCount (tests ns slots) ≤ liveCount slots
-unfolding tests
-tests-count [] slots = omega arith
-tests-count (n ∷ ns) slots = omega (arith, test-count n slots, tests-count ns (test n slots))
 
 -- A sweep keeps a number in use or frees it.
 abbrev pub SweptCount : ℕ → Swept → Type 0
@@ -140,7 +82,7 @@ AtMostLive most h = liveCount (h .slots) ≤ most
 tested-count : (most : ℕ) (sign : Sign) (kept : Sides) (r : Swept) → SweptCount most r → AfterDraw (AtMostLive most) (drawnKept sign (tested kept r))
 unfolding drawnKept tested
 tested-count most sign kept broken h = tt
-tested-count most sign kept (swept waiting slots modified) h = omega (arith, tests-count modified slots)
+tested-count most sign kept (swept waiting slots modified) h = omega (arith, freed-count (tests-freed modified slots))
 
 taken-count : (most : ℕ) (sign : Sign) (s : Sample) (h : Held) → AtMostLive most h → AfterDraw (AtMostLive most) (taken sign s h)
 unfolding taken

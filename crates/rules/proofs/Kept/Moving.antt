@@ -22,6 +22,7 @@ use Rattle.rules.proofs.Laws.Bools.{by-test}
 use Rattle.rules.proofs.Laws.Sets.{without-mem, append-mem, includeAll-mem, keep-mem, wait-mem, includeAll-rising, rising-length}
 use Rattle.rules.proofs.Kept.Freeing.{test-freed, tests-freed}
 use Rattle.rules.proofs.Kept.AfterFreeing.{not-some, freed-samples}
+use Rattle.rules.proofs.Kept.EachDraw.{AfterDraw, AfterSettling, settleHeld-keeps}
 
 -- A sample that is kept, waiting or in a live constraint.
 abbrev pub HeldIn : Sample → Held → Type 0
@@ -181,9 +182,7 @@ tested-within lost sign kept e h g w f t =
 
 -- A draw.
 abbrev pub DrawnWithin : Held → Drawn → Type 0
-DrawnWithin h idle = Unit
-DrawnWithin h clash = Unit
-DrawnWithin h (drawn sign wasKept g) = Within h g
+DrawnWithin h d = AfterDraw (Within h) d
 
 drawnKept-within : (sign : Sign) (h : Held) (o : Option Held) → ((g : Held) → o ≡ some g → Within h g) → DrawnWithin h (drawnKept sign o)
 unfolding drawnKept
@@ -219,28 +218,15 @@ draw-within h = drawFrom-within (h .waiting .positives) (h .waiting .negatives) 
 
 -- Settling.
 abbrev pub SettledWithin : Held → Settled → Type 0
-SettledWithin h contradicted = Unit
-SettledWithin h (settled g n) = Within h g
-
-counting-within : (sign : Sign) (wasKept : Bool) (h g : Held) (r : Settled) → Within h g → SettledWithin g r → SettledWithin h (counting sign wasKept r)
-unfolding counting
-counting-within sign wasKept h g contradicted w t = tt
-counting-within sign wasKept h g (settled e n) w t = λ x m. w x (t x m)
-
-follow-within : (d : Drawn) (h : Held) (more : Held → Settled) → DrawnWithin h d → ((g : Held) → SettledWithin g (more g)) → SettledWithin h (follow d h more)
-unfolding follow
-follow-within idle h more w t = λ x m. m
-follow-within clash h more w t = tt
-follow-within (drawn sign wasKept g) h more w t = counting-within sign wasKept h g (more g) w (t g)
-
-pub run-within : (most : ℕ) (h : Held) → SettledWithin h (run most h)
-unfolding run
-run-within zero h = λ x m. m
-run-within (suc most) h = follow-within (draw h) h (λ g. run most g) (draw-within h) (λ g. run-within most g)
+SettledWithin h r = AfterSettling (Within h) r
 
 pub settleHeld-within : (h : Held) → SettledWithin h (settleHeld h)
-unfolding settleHeld
-settleHeld-within h = run-within (size h) h
+settleHeld-within h = settleHeld-keeps (Within h) (λ g w. onward g w (draw g) (draw-within g)) h (λ x m. m)
+  where
+    onward : (g : Held) → Within h g → (d : Drawn) → DrawnWithin g d → DrawnWithin h d
+    onward g w idle v = tt
+    onward g w clash v = tt
+    onward g w (drawn sign wasKept k) v = λ x m. w x (v x m)
 
 -- The losses of a force.
 pub cleared-kept : (p : ℕ) (kept : Sides) (x : Sample) → Mem x (inSides (cleared p kept)) → Mem x (inSides kept)

@@ -23,7 +23,7 @@ use Rattle.rules.proofs.Laws.Sets.{all-mem, mem-all, append-mem, wait-m
 use Rattle.rules.proofs.Kept.Irredundant.{live-irredundant}
 use Rattle.rules.proofs.Kept.Moving.{HeldIn, SettledWithin, settleHeld-within, test-within}
 use Rattle.rules.proofs.Kept.ValidSettling.{wait-valid, test-live, test-marks, test-length, SettledValid, settleHeld-valid}
-use Rattle.rules.proofs.Kept.FreeNumbers.{AfterSettling}
+use Rattle.rules.proofs.Kept.EachDraw.{AfterSettling}
 use Rattle.rules.proofs.Kept.AddSteps.{Undecided, LivePart, AfterAdd, StepsKeep, addOther-keeps}
 
 -- A clause that passed the tests: valid samples, total ones if there are two or more, and then a free number.

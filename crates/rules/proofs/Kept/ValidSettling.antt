@@ -20,6 +20,7 @@ use Rattle.rules.proofs.Laws.Sets.{without-mem}
 use Rattle.rules.proofs.Kept.Irredundant.{tested-irredundant}
 use Rattle.rules.proofs.Kept.ValidSets.{any-part, keep-uncovered, with-side, keep-valid, without-valid, rest-valid}
 use Rattle.rules.proofs.Kept.Freeing.{freed-live, freed-marks, freed-length, test-freed, tests-freed}
+use Rattle.rules.proofs.Kept.EachDraw.{AfterDraw, AfterSettling, settleHeld-keeps}
 use Rattle.rules.proofs.Kept.ValidSweeping.{StaysUncovered, SweptValid, sweep-valid}
 -- A sample that waits, where the set was valid.
 pub use Rattle.rules.proofs.Kept.ValidSets.{wait-valid}
@@ -35,13 +36,10 @@ pub test-length : (n : ℕ) (slots : List Slot) → length (test n slots) ≡ le
 test-length n slots = freed-length (test-freed n slots)
 
 abbrev pub DrawnValid : List (List Sort) → Drawn → Type 0
-DrawnValid declared idle = Unit
-DrawnValid declared clash = Unit
-DrawnValid declared (drawn sign wasKept g) = ValidHeld declared g
+DrawnValid declared d = AfterDraw (ValidHeld declared) d
 
 abbrev pub SettledValid : List (List Sort) → Settled → Type 0
-SettledValid declared contradicted = Unit
-SettledValid declared (settled g n) = ValidHeld declared g
+SettledValid declared r = AfterSettling (ValidHeld declared) r
 
 -- After losses: a contradiction, or what is held is valid.
 abbrev pub IfHeld : (Held → Type 0) → Option Held → Type 0
@@ -133,26 +131,8 @@ pub draw-valid : (declared : List (List Sort)) (h : Held) → ValidHeld declared
 unfolding draw
 draw-valid declared h v = drawFrom-valid declared (h .waiting .positives) (h .waiting .negatives) h v
 
-counting-valid : (declared : List (List Sort)) (sign : Sign) (wasKept : Bool) (r : Settled) → SettledValid declared r → SettledValid declared (counting sign wasKept r)
-unfolding counting
-counting-valid declared sign wasKept contradicted v = tt
-counting-valid declared sign wasKept (settled g n) v = v
-
-follow-valid : (declared : List (List Sort)) (d : Drawn) (h : Held) (more : Held → Settled) → DrawnValid declared d → ValidHeld declared h
-    → ((g : Held) → ValidHeld declared g → SettledValid declared (more g)) → SettledValid declared (follow d h more)
-unfolding follow
-follow-valid declared idle h more r v f = v
-follow-valid declared clash h more r v f = tt
-follow-valid declared (drawn sign wasKept g) h more r v f = counting-valid declared sign wasKept (more g) (f g r)
-
-pub run-valid : (declared : List (List Sort)) (most : ℕ) (h : Held) → ValidHeld declared h → SettledValid declared (run most h)
-unfolding run
-run-valid declared zero h v = v
-run-valid declared (suc most) h v = follow-valid declared (draw h) h (λ g. run most g) (draw-valid declared h v) v (λ g. run-valid declared most g)
-
 pub settleHeld-valid : (declared : List (List Sort)) (h : Held) → ValidHeld declared h → SettledValid declared (settleHeld h)
-unfolding settleHeld
-settleHeld-valid declared h v = run-valid declared (size h) h v
+settleHeld-valid declared h v = settleHeld-keeps (ValidHeld declared) (draw-valid declared) h v
 
 pub losses-valid : (declared : List (List Sort)) (p : ℕ) (value : Bool) (h g : Held) → ValidHeld declared h → losses p value h ≡ some g → ValidHeld declared g
 unfolding losses

@@ -23,7 +23,8 @@ use Rattle.rules.proofs.Laws.Bools.{both, by-test, and-split, and-join,
 use Rattle.rules.proofs.Laws.Sets.{all-mem, mem-all, any→, member→, include-mem}
 use Rattle.rules.proofs.Kept.ValidSettling.{SettledValid, settleHeld-valid}
 use Rattle.rules.proofs.Same.SameAssignments.{total-in, satisfies-covered, wait-sat, test-sat, SettledSat, settleHeld-sat}
-use Rattle.rules.proofs.Kept.FreeNumbers.{AfterSettling, AtMostLive, settleHeld-count, lowestFree-free, lowestFree-room}
+use Rattle.rules.proofs.Kept.FreeNumbers.{AtMostLive, settleHeld-count, lowestFree-free, lowestFree-room}
+use Rattle.rules.proofs.Kept.EachDraw.{AfterSettling}
 use Rattle.rules.proofs.Kept.AddSteps.{parts-all, include-all, Undecided, RightOf, LeftOf, step2-of, step3-of}
 use Rattle.rules.proofs.Kept.ValidAdding.{ClauseFits, Whole, fits-whole, several-left, set-live, waitIn-valid}
 

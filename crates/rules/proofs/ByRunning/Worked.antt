@@ -4,7 +4,7 @@ use mathlib.Core.List.{List, [], _∷_}
 use Rattle.rules.specs.Contents.{positive, negative}
 use Rattle.rules.specs.Script.Bytes.{text}
 use Rattle.rules.specs.Script.Running.{script}
-use Rattle.rules.proofs.Points.Questions.{line, covering, overlapping, isSingle, liveNumbers, modifiedNumbers, keptOnes, waitingOnes, Step, _gives_, played, promised}
+use Rattle.rules.proofs.ByRunning.Questions.{line, covering, overlapping, isSingle, liveNumbers, modifiedNumbers, keptOnes, waitingOnes, Step, _gives_, played, promised}
 
 unfoldable pub starred : List (List Step)
 starred =

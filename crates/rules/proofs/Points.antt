@@ -1,3 +1,0 @@
--- The worked points, computed.
-pub mod Questions
-pub mod Worked
