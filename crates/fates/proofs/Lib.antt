@@ -1,0 +1,2 @@
+-- Laws of numbered constraints against the rules.
+pub mod Fates

@@ -1,0 +1,8 @@
+-- What the functions' proofs share.
+pub mod PickLaws
+pub mod ReadRows
+pub mod Covered
+pub mod Searches
+pub mod Shifts
+pub mod Rearranged
+pub mod Orders

@@ -1,0 +1,17 @@
+// The samples by number: sets of numbers as words of bits, the pool of rows with its order, and the questions about covering.
+
+mod covering;
+mod order;
+mod rows;
+
+pub use covering::Waited;
+pub use covering::below;
+pub use covering::covered_in;
+pub use covering::waits;
+pub use order::First;
+pub use order::Place;
+pub use order::close;
+pub use order::first_in;
+pub use order::open;
+pub use order::seek;
+pub use rows::row_at;

@@ -1,0 +1,6 @@
+pub mod Signs
+pub mod Rows
+pub mod Ranks
+pub mod Declarations
+pub mod Tests
+pub mod Classes

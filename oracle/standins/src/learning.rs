@@ -1,0 +1,5 @@
+//! Stands in for `learning.rs` and `learning/ice.rs`: the path to the projected data.
+
+pub mod ice {
+    pub mod data;
+}
