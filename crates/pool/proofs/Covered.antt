@@ -1,4 +1,4 @@
--- Covering by number: what a total sample covers, what the two searches have found so far, and a sample that waits.
+-- Covering by number: what a total sample covers, whether a member covers s, which numbers s covers, and a sample that waits or is drawn.
 use mathlib.Core.Path.{_≡_, refl, sym, ap, _∙_}
 use mathlib.Core.Bool.{Bool, true, false, not, _&&_, _||_}
 use mathlib.Core.List.{List, [], _∷_}
@@ -7,19 +7,19 @@ use mathlib.Core.Option.{none, some}
 use Prim.Native.Nat.{ℕ, _+_, _≤_, _<_}
 use native.Mathlib.Omega.{arith}
 use lib.Dec.{eqb, ltb}
-use lib.ListN.{length, getD, take}
-use borrow.Author.Tests.{eqb-true, eqb-false, eq-eqb, ne-eqb, ltb-true, ltb-false}
+use lib.ListN.{length, getD}
+use borrow.Author.Tests.{eqb-true, eq-eqb, ltb-true, ltb-false}
 use Rattle.rules.specs.Samples.{Position, Sample, covers, knownCount, total}
-use Rattle.rules.specs.Sets.{coveredBy}
+use Rattle.rules.specs.Sets.{coveredBy, keep}
 use Rattle.rules.specs.Waiting.{isNew, wait}
 use Rattle.rules.proofs.Laws.Bools.{both, not-false, refuted, same-truth, and-split, or-split}
 use Rattle.rules.proofs.Laws.Covering.{CoversAll, covers→, covers-refl}
 use Rattle.words.specs.Sets.{inSet, Holds}
 use Rattle.words.specs.declared.set.Set.{Set}
-use Rattle.pool.specs.Picks.{Among}
 use Rattle.pool.specs.Pools.{Table, sampleAt, inUse, members, PoolOk, PartialOk, Within}
-use Rattle.pool.specs.Answers.{Below, Waits}
-use Rattle.pool.proofs.PickLaws.{among-at, among-place, same-number, pick-keep, pick-covered, pick-uncovered}
+use Rattle.pool.specs.Answers.{Below, Waits, Keeps}
+use Rattle.pool.proofs.PickLaws.{among-place, same-number, pick-keep, pick-covered, pick-uncovered}
+use Rattle.pool.proofs.Gathered.{Used, low}
 
 -- A total sample covers itself alone.
 known-few : (xs : List Position) → knownCount xs ≤ length xs
@@ -44,26 +44,12 @@ total-covers a b t c =
     let e : a .at ≡ b .at = all-known (a .at) (b .at) (eqb-true (knownCount (a .at)) (length (a .at)) t) (h .at) in
     λ i. record { pred = h .pred i; at = e i }
 
--- The first i + 1 numbers of a list are the first i and the one at i.
-among-next : (i k : ℕ) (l : List ℕ) → Among k (take (i + 1) l) → (k ≡ getD l i 0 → ⊥) → Among k (take i l)
-among-next i k l m other =
-    let (j, low, inside, e) = among-place (i + 1) k l m in
-    let apart : j ≡ i → ⊥ = λ s. other (sym e ∙ ap (λ (p : ℕ). getD l p 0) s) in
-    let g : j < i = omega arith in
-    rw e at (among-at i j l g inside)
-
-among-more : (i n k : ℕ) (l : List ℕ) → i ≤ n → Among k (take i l) → Among k (take n l)
-among-more i n k l h m = let (j, low, inside, e) = among-place i k l m in rw e at (among-at n j l (omega arith) inside)
-
--- Covering, by number; number k is one of the first n of the order.
+-- Covering, by number.
 abbrev pub coversNo : (ℕ → ℕ) → Table → ℕ → ℕ → Bool
 coversNo positions t a b = covers (sampleAt positions t a) (sampleAt positions t b)
 
 abbrev pub coveredNo : (ℕ → ℕ) → Table → ℕ → List ℕ → Set → ℕ → Bool
 coveredNo positions t n order set s = coveredBy (members positions t n order set) (sampleAt positions t s)
-
-abbrev pub Used : ℕ → List ℕ → ℕ → Type 0
-Used n order k = Among k (inUse n order)
 
 -- No number among the first i of the order that is asked covers s.
 abbrev pub NoneYet : (ℕ → ℕ) → Table → List ℕ → Set → ℕ → ℕ → Type 0
@@ -83,13 +69,6 @@ pub answered : (set : Set) (j k : ℕ) (r b : Bool) → r ≡ inSet set j → j 
 answered set j k r b h e q = ap (inSet set) (sym e) ∙ sym h ∙ q
 
 module _ (positions : ℕ → ℕ) (t : Table) (n : ℕ) (order : List ℕ) (ok : PoolOk positions t n order) where
-  -- The number at a place is in use, and a number in use is one of the 256.
-  pub used : (i : ℕ) → i < n → Used n order (getD order i 0)
-  used i h = among-at n i order h (omega (arith, ok .few, ok .full))
-
-  pub low : (k : ℕ) → Used n order k → k < 256
-  low k m = let (i, h, inside, e) = among-place n k order m in rw e at (ok .numbers i (omega (arith, ok .few)))
-
   -- A total sample in use covers no other number's.
   pub alone : (a b : ℕ) → Used n order a → Used n order b → total (sampleAt positions t a) ≡ true → coversNo positions t a b ≡ true → a ≡ b
   alone a b p q whole c =
@@ -103,7 +82,7 @@ module _ (positions : ℕ → ℕ) (t : Table) (n : ℕ) (order : List ℕ) (ok 
     module _ (partial set asked : Set) (met : Holds asked (λ k. inSet set k && inSet partial k)) where
       pub covered-at : (k : ℕ) → Used n order k → inSet asked k ≡ true → coversNo positions t k s ≡ true → true ≡ coveredNo positions t n order set s
       covered-at k m h c =
-          let p = and-split (inSet set k) (inSet partial k) (sym (met k (low k m)) ∙ h) in
+          let p = and-split (inSet set k) (inSet partial k) (sym (met k (low positions t n order ok k m)) ∙ h) in
           sym (pick-covered (sampleAt positions t) (inSet set) (inUse n order) (sampleAt positions t s) k m (p .0) c)
 
       -- It is not where neither holds: a total member would have to be s.
@@ -114,52 +93,20 @@ module _ (positions : ℕ → ℕ) (t : Table) (n : ℕ) (order : List ℕ) (ok 
         where
           go : (k : ℕ) → Used n order k → inSet set k ≡ true → (b : Bool) → total (sampleAt positions t k) ≡ b → coversNo positions t k s ≡ false
           go k m h true e = refuted (coversNo positions t k s) (λ c. both h (rw (alone k s m here e c) out))
-          go k m h false e = none-asked k m (met k (low k m) ∙ (rw (h, parts k m, e)))
+          go k m h false e = none-asked k m (met k (low positions t n order ok k m) ∙ (rw (h, parts k m, e)))
 
       pub none-asked-covers : PartialOk positions t n order partial → inSet set s ≡ false → NoneYet positions t order asked s n → false ≡ coveredNo positions t n order set s
       none-asked-covers parts out none-yet =
           uncovered parts out (λ k m h. let (j, l, inside, e) = among-place n k order m in rw e at (none-yet j l (rw e h)))
 
       pub nothing-asked : PartialOk positions t n order partial → inSet set s ≡ false → Holds asked (λ k. false) → false ≡ coveredNo positions t n order set s
-      nothing-asked parts out empty = uncovered parts out (λ k m h. both h (empty k (low k m)))
-
-    -- Which numbers does s cover? Those found among the first i of the order.
-    pub below-none : (out : Set) → Holds out (λ k. false) → Below positions t 0 order s out
-    below-none out h = record { covered = λ k m. absurd m; within = λ k l e. both e (h k l) }
-
-    module _ (i : ℕ) (l : i < n) (out : Set) (found : Below positions t i order s out) where
-      below-next : (more : Set) → inSet more (getD order i 0) ≡ coversNo positions t s (getD order i 0)
-          → ((k : ℕ) → k < 256 → (k ≡ getD order i 0 → ⊥) → inSet more k ≡ inSet out k) → Below positions t (i + 1) order s more
-      below-next more new old = record { covered = λ k m. each k m (eqb k (getD order i 0)) refl; within = λ k h e. inside k h e (eqb k (getD order i 0)) refl }
-        where
-          each : (k : ℕ) → Used (i + 1) order k → (b : Bool) → eqb k (getD order i 0) ≡ b → inSet more k ≡ coversNo positions t s k
-          each k m true e = rw (eqb-true k (getD order i 0) e) new
-          each k m false e =
-              let other = eqb-false k (getD order i 0) e in
-              old k (low k (among-more (i + 1) n k order (omega arith) m)) other ∙ found .covered k (among-next i k order m other)
-
-          inside : (k : ℕ) → k < 256 → inSet more k ≡ true → (b : Bool) → eqb k (getD order i 0) ≡ b → Used (i + 1) order k
-          inside k h p true e = rw (eqb-true k (getD order i 0) e) (among-at (i + 1) i order (omega arith) (omega (arith, ok .few, ok .full)))
-          inside k h p false e = among-more i (i + 1) k order (omega arith) (found .within k h (sym (old k h (eqb-false k (getD order i 0) e)) ∙ p))
-
-      pub below-joins : (more : Set) (r : ℕ) → r ≡ getD order i 0 → Holds more (λ k. eqb k r || inSet out k)
-          → true ≡ coversNo positions t s (getD order i 0) → Below positions t (i + 1) order s more
-      below-joins more r e joined c =
-          below-next more (joined (getD order i 0) (low (getD order i 0) (used i l)) ∙ (rw (eq-eqb (getD order i 0) r (sym e)) c))
-          (λ k h other. joined k h ∙ (rw (ne-eqb k r (λ d. other (d ∙ e)))))
-
-      pub below-skips : false ≡ coversNo positions t s (getD order i 0) → Below positions t (i + 1) order s out
-      below-skips c =
-          below-next out (refuted (inSet out x) (λ h. let m = found .within x (low x (used i l)) h in both (sym (found .covered x m) ∙ h) (sym c)) ∙ c) (λ k h other. refl)
-        where
-          x : ℕ
-          x = getD order i 0
+      nothing-asked parts out empty = uncovered parts out (λ k m h. both h (empty k (low positions t n order ok k m)))
 
     -- A total sample: itself alone.
     pub below-total : (partial empty out : Set) (r : ℕ) → PartialOk positions t n order partial → inSet partial s ≡ false → r ≡ s
         → Holds empty (λ k. false) → Holds out (λ k. eqb k r || inSet empty k) → Below positions t n order s out
     below-total partial empty out r parts outside e none-there joined = record {
-      covered = λ k m. only k (low k m) ∙ same-truth (eqb k s) (coversNo positions t s k)
+      covered = λ k m. only k (low positions t n order ok k m) ∙ same-truth (eqb k s) (coversNo positions t s k)
           (λ h. rw (eqb-true k s h) (covers-refl (sampleAt positions t s)))
           (λ c. eq-eqb k s (sym (alone s k here m whole c)));
       within = λ k h p. rw (eqb-true k s (sym (only k h) ∙ p)) here;
@@ -175,28 +122,40 @@ module _ (positions : ℕ → ℕ) (t : Table) (n : ℕ) (order : List ℕ) (ok 
         only : (k : ℕ) → k < 256 → inSet out k ≡ eqb k s
         only k h = joined k h ∙ (rw (none-there k h, e) (by (eqb k s)))
 
-    -- A sample that waits.
-    pub waits-covered : (waiting : Set) → Within n order waiting → true ≡ coveredNo positions t n order waiting s
-        → Waits positions t n order waiting s (record { set = waiting; fresh = false })
-    unfolding isNew wait
-    waits-covered waiting within c = record { set = rw (← c); fresh = rw (← c); within = within }
-
-    pub waits-new : (waiting below left out : Set) (r : ℕ) → Within n order waiting → false ≡ coveredNo positions t n order waiting s
-        → Below positions t n order s below → Holds left (λ k. inSet waiting k && not (inSet below k)) → r ≡ s → Holds out (λ k. eqb k r || inSet left k)
-        → Waits positions t n order waiting s (record { set = out; fresh = true })
-    unfolding isNew wait
-    waits-new waiting below left out r within c under lost e joined = record {
-      set = rw (← c) (pick-keep (sampleAt positions t) (inSet waiting) (inSet out) s (inUse n order) (ok .rises) here (λ k m. each k m));
-      fresh = rw (← c);
-      within = λ k h p. inside k h (or-split (eqb k s) (inSet left k) (sym (now k h) ∙ p));
-    }
+    -- s joins a set, and those of the set that it covers go.
+    joins : (set below left out : Set) (r : ℕ) → Within n order set → Below positions t n order s below
+        → Holds left (λ k. inSet set k && not (inSet below k)) → r ≡ s → Holds out (λ k. eqb k r || inSet left k)
+        → (members positions t n order out ≡ keep (sampleAt positions t s) (members positions t n order set)) × Within n order out
+    joins set below left out r within under lost e joined = (
+      pick-keep (sampleAt positions t) (inSet set) (inSet out) s (inUse n order) (ok .rises) here (λ k m. each k m),
+      λ k h p. inside k h (or-split (eqb k s) (inSet left k) (sym (now k h) ∙ p)),
+    )
       where
         now : (k : ℕ) → k < 256 → inSet out k ≡ (eqb k s || inSet left k)
         now k h = rw (← e) (joined k h)
 
-        each : (k : ℕ) → Used n order k → inSet out k ≡ (eqb k s || (inSet waiting k && not (coversNo positions t s k)))
-        each k m = now k (low k m) ∙ (rw (lost k (low k m), under .covered k m))
+        each : (k : ℕ) → Used n order k → inSet out k ≡ (eqb k s || (inSet set k && not (coversNo positions t s k)))
+        each k m = let l = low positions t n order ok k m in now k l ∙ (rw (lost k l, under .covered k m))
 
         inside : (k : ℕ) → k < 256 → (eqb k s ≡ true) ⊎ (inSet left k ≡ true) → Used n order k
         inside k h (inl d) = rw (eqb-true k s d) here
-        inside k h (inr d) = within k h (and-split (inSet waiting k) (not (inSet below k)) (sym (lost k h) ∙ d) .0)
+        inside k h (inr d) = within k h (and-split (inSet set k) (not (inSet below k)) (sym (lost k h) ∙ d) .0)
+
+    -- A sample that a member covers changes nothing: one that waits, and one that is drawn.
+    module _ (set : Set) (within : Within n order set) (c : true ≡ coveredNo positions t n order set s) where
+      pub waits-covered : Waits positions t n order set s (record { set = set; fresh = false })
+      unfolding isNew wait
+      waits-covered = record { set = rw (← c); fresh = rw (← c); within = within }
+
+      pub keeps-covered : (none-below : Set) → Keeps positions t n order set s (record { set = set; below = none-below; kept = false })
+      keeps-covered none-below = record { asked = rw (← c); set = refl; within = within; below = λ e. both e refl }
+
+    -- Another joins.
+    module _ (set below left out : Set) (r : ℕ) (within : Within n order set) (c : false ≡ coveredNo positions t n order set s) (under : Below positions t n order s below)
+        (lost : Holds left (λ k. inSet set k && not (inSet below k))) (e : r ≡ s) (joined : Holds out (λ k. eqb k r || inSet left k)) where
+      pub waits-new : Waits positions t n order set s (record { set = out; fresh = true })
+      unfolding isNew wait
+      waits-new = let j = joins set below left out r within under lost e joined in record { set = rw (← c) (j .0); fresh = rw (← c); within = j .1 }
+
+      pub keeps-new : Keeps positions t n order set s (record { set = out; below = below; kept = true })
+      keeps-new = let j = joins set below left out r within under lost e joined in record { asked = rw (← c); set = j .0; within = j .1; below = λ h. under }

@@ -1,18 +1,20 @@
 -- What the pool's functions answer.
 use mathlib.Core.Path.{_≡_}
-use mathlib.Core.Bool.{Bool, true, false, not, _&&_}
+use mathlib.Core.Bool.{Bool, true, false, cond, not, _&&_}
 use mathlib.Core.List.{List, [], _∷_, _++_}
 use mathlib.Core.Option.{Option, none, some}
 use Prim.Native.Nat.{ℕ, suc, _-_, _≤_, _<_}
 use lib.ListN.{length, getD, take, drop}
 use Rattle.rules.specs.Samples.{Sample, covers, before}
-use Rattle.rules.specs.Sets.{coveredBy}
+use Rattle.rules.specs.Sets.{coveredBy, keep, without}
+use Rattle.rules.specs.Forcing.{names}
 use Rattle.rules.specs.Waiting.{isNew, wait}
 use Rattle.words.specs.Sets.{inSet}
 use Rattle.words.specs.declared.set.Set.{Set}
 use Rattle.sample.specs.declared.row.Row.{Row}
 use Rattle.sample.specs.Rows.{shown, RowOk}
 use Rattle.pool.specs.declared.covering.Waited.{Waited}
+use Rattle.pool.specs.declared.covering.Keeping.{Keeping}
 use Rattle.pool.specs.declared.order.First.{First}
 use Rattle.pool.specs.declared.order.First.the-variants.{At, Nothing}
 use Rattle.pool.specs.declared.order.Place.{Place}
@@ -45,6 +47,32 @@ pub record Waits (positions : ℕ → ℕ) (t : Table) (n : ℕ) (order : List �
 abbrev pub WaitsIn : Table → ℕ → List ℕ → Set → Set → ℕ → Waited → Type 0
 WaitsIn t n order partial waiting s r = (positions : ℕ → ℕ) → PoolOk positions t n order → PartialOk positions t n order partial → Within n order waiting → Among s (inUse n order)
     → Waits positions t n order waiting s r
+
+-- A drawn sample: gone if a kept one covers it; else it is kept, and kept ones that it covers go.
+pub record Keeps (positions : ℕ → ℕ) (t : Table) (n : ℕ) (order : List ℕ) (kept : Set) (s : ℕ) (r : Keeping) : Type 0 where
+  pub asked : r .kept ≡ not (coveredBy (members positions t n order kept) (sampleAt positions t s))
+  pub set : members positions t n order (r .set) ≡ cond (r .kept) (keep (sampleAt positions t s) (members positions t n order kept)) (members positions t n order kept)
+  pub within : Within n order (r .set)
+  pub below : r .kept ≡ true → Below positions t n order s (r .below)
+
+abbrev pub KeepsIn : Table → ℕ → List ℕ → Set → Set → ℕ → Keeping → Type 0
+KeepsIn t n order partial kept s r = (positions : ℕ → ℕ) → PoolOk positions t n order → PartialOk positions t n order partial → Within n order kept → Among s (inUse n order)
+    → Keeps positions t n order kept s r
+
+-- The samples of a predicate, and a set without them.
+pub record Naming (positions : ℕ → ℕ) (t : Table) (n : ℕ) (order : List ℕ) (p : ℕ) (r : Set) : Type 0 where
+  pub named : (k : ℕ) → Among k (inUse n order) → inSet r k ≡ names p (sampleAt positions t k)
+  pub within : Within n order r
+
+abbrev pub NamingIn : ℕ → List ℕ → List ℕ → ℕ → Set → Type 0
+NamingIn n order pred p r = (positions : ℕ → ℕ) (t : Table) → PoolOk positions t n order → t .pred ≡ pred → Naming positions t n order p r
+
+pub record Forgets (positions : ℕ → ℕ) (t : Table) (n : ℕ) (order : List ℕ) (set : Set) (p : ℕ) (r : Set) : Type 0 where
+  pub is : members positions t n order r ≡ without (names p) (members positions t n order set)
+  pub within : Within n order set → Within n order r
+
+abbrev pub ForgetsIn : ℕ → List ℕ → List ℕ → Set → ℕ → Set → Type 0
+ForgetsIn n order pred set p r = (positions : ℕ → ℕ) (t : Table) → PoolOk positions t n order → t .pred ≡ pred → Forgets positions t n order set p r
 
 -- The first number of the order that is in the set.
 unfoldable pub firstNo : First → Option ℕ

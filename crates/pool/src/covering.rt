@@ -1,9 +1,10 @@
-// Every question about covering: does a sample of a set cover s; which samples does s cover; a sample that waits.
-// A total sample covers itself alone, so only partial ones are asked.
+// Every question about covering: does a sample of a set cover s; which samples does s cover; a sample that waits, or is drawn.
+// A total sample covers itself alone, so only partial ones are asked. And the samples of a predicate.
 ghost use Prim.Native.Nat.{_≤_};
 ghost use Rattle.pool.specs.Pools.{tableOf};
-ghost use Rattle.pool.specs.Answers.{CoveredIn, CoveredBy, IsBelow, WaitsIn};
+ghost use Rattle.pool.specs.Answers.{CoveredIn, CoveredBy, IsBelow, WaitsIn, KeepsIn, NamingIn, ForgetsIn};
 use crate::rows::covers_at;
+use sample::PredNo;
 use sample::SampleNo;
 use words::Set;
 
@@ -113,4 +114,68 @@ pub fn waits<'a>(
         set: left.with(s.at()),
         fresh: true,
     }
+}
+
+// A drawn sample: whether it is kept, the kept set after it, and all that it covers.
+#[repr(C)]
+pub struct Keeping {
+    pub set: Set,
+    pub below: Set,
+    pub kept: bool,
+}
+
+// If a kept one covers it, it is gone. Else kept ones that it covers go, and it is kept.
+pub fn keeps<'a>(
+    n: usize,
+    order: &'a [u8; 256],
+    pred: &'a [u8; 256],
+    mask: &'a [u8; 256],
+    vals: &'a [i64; 1536],
+    partial: Set,
+    kept: Set,
+    s: SampleNo,
+) -> Keeping
+    requires { ⌜ n ≤ 256 ⌝ }
+    ensures { λ r. ⌜ KeepsIn (tableOf (now (pred .entry)) (now (mask .entry)) (now (vals .entry))) n (now (order .entry)) partial kept (s .0) r ⌝ }
+{
+    if covered_in(n, order, pred, mask, vals, partial, kept, s) {
+        return Keeping {
+            set: kept,
+            below: Set::empty(),
+            kept: false,
+        };
+    }
+    let b = below(n, order, pred, mask, vals, partial, s);
+    let others = kept.minus(b);
+    Keeping {
+        set: others.with(s.at()),
+        below: b,
+        kept: true,
+    }
+}
+
+// The samples of predicate p.
+pub fn naming<'a>(n: usize, order: &'a [u8; 256], pred: &'a [u8; 256], p: PredNo) -> Set
+    requires { ⌜ n ≤ 256 ⌝ }
+    ensures { λ r. ⌜ NamingIn n (now (order .entry)) (now (pred .entry)) (p .0) r ⌝ }
+{
+    let mut out = Set::empty();
+    let mut i: usize = 0;
+    while i < n {
+        let k = SampleNo(order[i]);
+        let j = k.at();
+        if pred[j] == p.0 {
+            out = out.with(j);
+        }
+        i = i + 1;
+    }
+    out
+}
+
+// A set without the samples of predicate p.
+pub fn forgets<'a>(n: usize, order: &'a [u8; 256], pred: &'a [u8; 256], set: Set, p: PredNo) -> Set
+    requires { ⌜ n ≤ 256 ⌝ }
+    ensures { λ r. ⌜ ForgetsIn n (now (order .entry)) (now (pred .entry)) set (p .0) r ⌝ }
+{
+    set.minus(naming(n, order, pred, p))
 }

@@ -4,9 +4,13 @@ mod covering;
 mod order;
 mod rows;
 
+pub use covering::Keeping;
 pub use covering::Waited;
 pub use covering::below;
 pub use covering::covered_in;
+pub use covering::forgets;
+pub use covering::keeps;
+pub use covering::naming;
 pub use covering::waits;
 pub use order::First;
 pub use order::Place;

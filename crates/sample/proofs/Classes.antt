@@ -200,11 +200,10 @@ module _ (positives negatives row : List ℤ) (n : ℕ) where
     unfolding orNegative
     is-nowhere e f = rw (asked-both, e, f)
 
--- The code's part from an index on, what it holds and where it starts, is the rules' part.
-pub part-at : (list : List ℤ) (start : ℕ × ℕ) (i k : ℕ) → i ≡ k * shownSize
-    → (take (i + shownSize - i) (drop i list) ≡ part k list) × (placeAt i start ≡ placeAt (k * shownSize) start)
+-- The code's row at an index, what it holds and where it starts, is the rules' part.
+pub part-at : (list : List ℤ) (start : ℕ × ℕ) (i k : ℕ) (held : List ℤ) (from : ℕ × ℕ) → i ≡ k * shownSize
+    → (held ≡ take shownSize (drop i list)) × (from ≡ placeAt i start) → (held ≡ part k list) × (from ≡ placeAt (k * shownSize) start)
 unfolding part
-part-at list start i k e =
-    let a : i + shownSize - i ≡ shownSize = omega arith in
+part-at list start i k held from e given =
     let b : i ≡ shownSize * k = omega arith in
-    (rw (a, b), ap (λ j. placeAt j start) e)
+    (given .0 ∙ (rw b), given .1 ∙ ap (λ j. placeAt j start) e)

@@ -1,5 +1,5 @@
 -- Two rows compared in a loop over six positions: one turn, the end, and what it says of the samples that the rows show.
-use mathlib.Core.Path.{_≡_, sym, _∙_}
+use mathlib.Core.Path.{_≡_, refl, sym, _∙_}
 use mathlib.Core.Bool.{Bool, false, _&&_}
 use mathlib.Core.List.{List}
 use Prim.Native.Nat.{ℕ, _+_, _-_, _≤_, _<_}
@@ -9,16 +9,19 @@ use lib.Dec.{eqb}
 use lib.ListN.{getD}
 use borrow.Author.Tests.{eq-eqb, ne-eqb, lt-ltb, le-ltb}
 use Rattle.rules.specs.Values.{Value, blank}
-use Rattle.rules.specs.Samples.{Position, Sample, before}
+use Rattle.rules.specs.Samples.{Position, Sample, covers, overlaps, before}
 use Rattle.rules.specs.Rows.{bit, position, positionsFrom}
 use Rattle.sample.specs.declared.row.Row.{Row}
 use Rattle.sample.specs.declared.row.Rank.{Rank}
 use Rattle.sample.specs.declared.row.Rank.the-variants.{Before, After}
+use Rattle.sample.specs.declared.row.Way.{Way}
+use Rattle.sample.specs.declared.row.Way.the-variants.{Covers, Overlaps}
 use Rattle.sample.specs.Rows.{shown, RowOk}
 use Rattle.sample.specs.Ranks.{rankOf}
+use Rattle.sample.specs.Ways.{agrees}
 use Rattle.sample.proofs.Signed.{readBack, Small, read-back}
 use Rattle.sample.proofs.Positions.{next-position, no-position}
-use Rattle.sample.proofs.Pairwise.{Pairwise, past-positions, ranking}
+use Rattle.sample.proofs.Pairwise.{Pairwise, agreesAll, agreeing, past-positions, ranking}
 
 -- The positions of a row that a loop at i has left.
 abbrev pub left : Row → ℕ → List Position
@@ -54,17 +57,19 @@ module _ {B : Type 0} (T : Pairwise B) (a b : Row) where
       rw (← e) (sym (past-positions T (of (a .pred .0)) (a .mask) (b .mask) (a .v) (b .v) (p .mask) (rw e (q .mask)) (of (a .pred .0)) 6 0 (omega arith) (p .few)))
 
 -- Covering and overlapping ask for equal predicates first.
-abbrev pub sampleTest : Pairwise Bool → Sample → Sample → Bool
-sampleTest T s t = eqb (s .pred) (t .pred) && T .all (s .at) (t .at)
+agrees-both : (way : Way) (s t : Sample) → agrees way s t ≡ (eqb (s .pred) (t .pred) && agreesAll way (s .at) (t .at))
+unfolding covers overlaps
+agrees-both Covers s t = refl
+agrees-both Overlaps s t = refl
 
-module _ (T : Pairwise Bool) (a b : Row) (of : ℕ → ℕ) (p : RowOk of a) (q : RowOk of b) where
-  pub other-predicate : (SamePredicate a b → ⊥) → false ≡ sampleTest T (shown of a) (shown of b)
+module _ (way : Way) (a b : Row) (of : ℕ → ℕ) (p : RowOk of a) (q : RowOk of b) where
+  pub other-predicate : (SamePredicate a b → ⊥) → false ≡ agrees way (shown of a) (shown of b)
   unfolding shown
-  other-predicate h = rw (ne-eqb (a .pred .0) (b .pred .0) h)
+  other-predicate h = rw (agrees-both way (shown of a) (shown of b), ne-eqb (a .pred .0) (b .pred .0) h)
 
-  pub same-predicate : SamePredicate a b → (r : Bool) → sixWise T a b ≡ r → r ≡ sampleTest T (shown of a) (shown of b)
+  pub same-predicate : SamePredicate a b → (r : Bool) → sixWise (agreeing way) a b ≡ r → r ≡ agrees way (shown of a) (shown of b)
   unfolding shown
-  same-predicate h r e = rw (eq-eqb (a .pred .0) (b .pred .0) h) (sym e ∙ six-positions T a b of p q h)
+  same-predicate h r e = rw (agrees-both way (shown of a) (shown of b), eq-eqb (a .pred .0) (b .pred .0) h) (sym e ∙ six-positions (agreeing way) a b of p q h)
 
 module _ (a b : Row) (of : ℕ → ℕ) (p : RowOk of a) (q : RowOk of b) where
   pub lower-predicate : a .pred .0 < b .pred .0 → Before ≡ rankOf (shown of a) (shown of b)

@@ -6,11 +6,14 @@ use mathlib.Core.Option.{none}
 use Prim.Native.Nat.{ℕ, zero, suc, _+_, _^_, _≤_, _<_}
 use native.Mathlib.Omega.{arith}
 use Rattle.rules.specs.Values.{Value}
-use Rattle.rules.specs.Samples.{Position, coversAt, coversAll, overlapsAt, overlapsAll, beforeAt, beforeAll}
+use Rattle.rules.specs.Samples.{Position, coversAll, overlapsAll, beforeAt, beforeAll}
 use Rattle.rules.specs.Rows.{positionsFrom}
 use Rattle.sample.specs.declared.row.Rank.{Rank}
 use Rattle.sample.specs.declared.row.Rank.the-variants.{Before, Same, After}
+use Rattle.sample.specs.declared.row.Way.{Way}
+use Rattle.sample.specs.declared.row.Way.the-variants.{Covers, Overlaps}
 use Rattle.sample.specs.Ranks.{rankBy, rankAt}
+use Rattle.sample.specs.Ways.{agreesAt}
 use Rattle.sample.proofs.Positions.{positionAt, position-past}
 
 -- `one` is the test of two positions, `all` that of two lists of them, `join` takes the answer for the first positions and that for the rest.
@@ -27,13 +30,14 @@ pub record Pairwise (B : Type 0) : Type 0 where
   pub join : B → B → B
   pub laws : PairwiseLaws one all done join
 
-pub covers-laws : PairwiseLaws coversAt coversAll true _&&_
-unfolding coversAll
-covers-laws = record { at-end = refl; at-first = λ x y xs ys. refl; unknown = λ r. refl }
+abbrev pub agreesAll : Way → List Position → List Position → Bool
+agreesAll Covers = coversAll
+agreesAll Overlaps = overlapsAll
 
-pub overlaps-laws : PairwiseLaws overlapsAt overlapsAll true _&&_
-unfolding overlapsAll
-overlaps-laws = record { at-end = refl; at-first = λ x y xs ys. refl; unknown = λ r. refl }
+pub agree-laws : (way : Way) → PairwiseLaws (agreesAt way) (agreesAll way) true _&&_
+unfolding coversAll overlapsAll
+agree-laws Covers = record { at-end = refl; at-first = λ x y xs ys. refl; unknown = λ r. refl }
+agree-laws Overlaps = record { at-end = refl; at-first = λ x y xs ys. refl; unknown = λ r. refl }
 
 abbrev pub rankThen : Rank → Rank → Rank
 rankThen Before r = Before
@@ -55,11 +59,8 @@ rank-laws = record { at-end = refl; at-first = first; unknown = λ r. refl }
     first : (x y : Position) (xs ys : List Position) → rankAll (x ∷ xs) (y ∷ ys) ≡ rankThen (rankAt x y) (rankAll xs ys)
     first x y xs ys = by (beforeAt x y) (beforeAt y x) (beforeAll xs ys) (beforeAll ys xs)
 
-abbrev pub covering : Pairwise Bool
-covering = record { one = coversAt; all = coversAll; done = true; join = _&&_; laws = covers-laws }
-
-abbrev pub overlapping : Pairwise Bool
-overlapping = record { one = overlapsAt; all = overlapsAll; done = true; join = _&&_; laws = overlaps-laws }
+abbrev pub agreeing : Way → Pairwise Bool
+agreeing way = record { one = agreesAt way; all = agreesAll way; done = true; join = _&&_; laws = agree-laws way }
 
 abbrev pub ranking : Pairwise Rank
 ranking = record { one = rankAt; all = rankAll; done = Same; join = rankThen; laws = rank-laws }

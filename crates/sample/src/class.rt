@@ -7,8 +7,9 @@ ghost use Rattle.rules.specs.Samples.{coversAll};
 ghost use Rattle.rules.specs.Rows.{bit};
 ghost use Rattle.rules.specs.Classifying.{lowBits, shownPositions, firstCovering, wholeRows, classPart};
 ghost use Rattle.rules.specs.Classifying as rules;
-ghost use Rattle.sample.specs.Classes.{foundAt, classStart};
-use crate::row::covers_one;
+ghost use Rattle.sample.specs.Classes.{foundAt, placeAt, classStart};
+use crate::row::Way;
+use crate::row::agrees_one;
 
 // Bit i of a mask in its 64-bit form.
 pub fn bit_of(mask: i64, i: usize) -> bool
@@ -25,7 +26,8 @@ pub fn row_covers(list: &[i64], at: usize, row: &[i64], positions: usize) -> boo
 {
     let mut i: usize = 0;
     while i < positions {
-        if !covers_one(
+        if !agrees_one(
+            Way::Covers,
             bit_of(list[at], i),
             list[at + 1 + i],
             bit_of(row[0], i),
@@ -59,6 +61,16 @@ pub fn first_covering(list: &[i64], row: &[i64], positions: usize) -> Found
     Found::Nothing
 }
 
+// The row of seven at `at`, as a part of the caller's list.
+pub fn row_at<'a>(list: &'a [i64], at: usize) -> &'a [i64]
+    requires { ⌜ at + 7 ≤ length (now list) ⌝ }
+    ensures contents { λ r. ⌜ now r ≡ take 7 (drop at (now (list .entry))) ⌝ }
+    ensures start { λ r. ⌜ ptr r ≡ placeAt at (ptr (list .entry)) ⌝ }
+{
+    let e = at + 7;
+    &list[at..e]
+}
+
 // The part holds the numbers that the rules name, and starts where they stand in the caller's list: that tells the sign.
 pub fn classify<'a>(
     positives: &'a [i64],
@@ -77,13 +89,11 @@ pub fn classify<'a>(
     }
     let p = first_covering(positives, row, positions);
     if let Found::At(i) = p {
-        let e = i + 7;
-        return &positives[i..e];
+        return row_at(positives, i);
     }
     let n = first_covering(negatives, row, positions);
     let Found::At(j) = n else {
         return &positives[0..0];
     };
-    let e = j + 7;
-    &negatives[j..e]
+    row_at(negatives, j)
 }

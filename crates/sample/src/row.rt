@@ -3,10 +3,11 @@ ghost use mathlib.Core.Path.{_≡_};
 ghost use mathlib.Core.Bool.{Bool};
 ghost use Prim.Native.Nat.{ℕ, _<_};
 ghost use Rattle.rules.specs.Values.{equalValue, lowerValue};
-ghost use Rattle.rules.specs.Samples.{coversAt, overlapsAt, covers, overlaps, single, total};
+ghost use Rattle.rules.specs.Samples.{covers, overlaps, single, total};
 ghost use Rattle.rules.specs.Rows.{bit, position};
 ghost use Rattle.sample.specs.Rows.{shown, RowOk};
 ghost use Rattle.sample.specs.Ranks.{rankAt, rankOf};
+ghost use Rattle.sample.specs.Ways.{agreesAt, agrees};
 use crate::numbers::PredNo;
 
 // A sample: its predicate, a mask of its known positions, and six values, 0 where unknown or unused.
@@ -15,6 +16,12 @@ pub struct Row {
     pub pred: PredNo,
     pub mask: u8,
     pub v: [i64; 6],
+}
+
+// The two ways in which a sample can agree with another.
+pub enum Way {
+    Covers,
+    Overlaps,
 }
 
 // How two samples stand in the order.
@@ -43,28 +50,18 @@ pub fn known(mask: u8, i: usize) -> bool
     (mask >> i) % 2 == 1
 }
 
-// At one position: a is unknown, or both are known and equal.
-pub fn covers_one(ka: bool, a: i64, kb: bool, b: i64) -> bool
-    ensures { λ r. ⌜ r ≡ coversAt (position ka a) (position kb b) ⌝ }
+// At one position: unknown in a agrees with anything, known in a and unknown in b only where they are to overlap, two known values if equal.
+pub fn agrees_one(way: Way, ka: bool, a: i64, kb: bool, b: i64) -> bool
+    ensures { λ r. ⌜ r ≡ agreesAt way (position ka a) (position kb b) ⌝ }
 {
     if !ka {
         return true;
     }
     if !kb {
-        return false;
-    }
-    equal(a, b)
-}
-
-// At one position: not known in both and different.
-pub fn overlaps_one(ka: bool, a: i64, kb: bool, b: i64) -> bool
-    ensures { λ r. ⌜ r ≡ overlapsAt (position ka a) (position kb b) ⌝ }
-{
-    if !ka {
-        return true;
-    }
-    if !kb {
-        return true;
+        return match way {
+            Way::Covers => false,
+            Way::Overlaps => true,
+        };
     }
     equal(a, b)
 }
@@ -92,15 +89,21 @@ pub fn rank_one(ka: bool, a: i64, kb: bool, b: i64) -> Rank
 }
 
 impl Row {
-    pub fn covers(self, b: Row) -> bool
-        ensures { λ r. ⌜ ((positions : ℕ → ℕ) → RowOk positions self → RowOk positions b → r ≡ covers (shown positions self) (shown positions b)) ⌝ }
+    pub fn agrees(self, b: Row, way: Way) -> bool
+        ensures { λ r. ⌜ ((positions : ℕ → ℕ) → RowOk positions self → RowOk positions b → r ≡ agrees way (shown positions self) (shown positions b)) ⌝ }
     {
         if self.pred.0 != b.pred.0 {
             return false;
         }
         let mut i: usize = 0;
         while i < 6 {
-            if !covers_one(known(self.mask, i), self.v[i], known(b.mask, i), b.v[i]) {
+            if !agrees_one(
+                way,
+                known(self.mask, i),
+                self.v[i],
+                known(b.mask, i),
+                b.v[i],
+            ) {
                 return false;
             }
             i = i + 1;
@@ -108,20 +111,16 @@ impl Row {
         true
     }
 
+    pub fn covers(self, b: Row) -> bool
+        ensures { λ r. ⌜ ((positions : ℕ → ℕ) → RowOk positions self → RowOk positions b → r ≡ covers (shown positions self) (shown positions b)) ⌝ }
+    {
+        self.agrees(b, Way::Covers)
+    }
+
     pub fn overlaps(self, b: Row) -> bool
         ensures { λ r. ⌜ ((positions : ℕ → ℕ) → RowOk positions self → RowOk positions b → r ≡ overlaps (shown positions self) (shown positions b)) ⌝ }
     {
-        if self.pred.0 != b.pred.0 {
-            return false;
-        }
-        let mut i: usize = 0;
-        while i < 6 {
-            if !overlaps_one(known(self.mask, i), self.v[i], known(b.mask, i), b.v[i]) {
-                return false;
-            }
-            i = i + 1;
-        }
-        true
+        self.agrees(b, Way::Overlaps)
     }
 
     pub fn rank(self, b: Row) -> Rank

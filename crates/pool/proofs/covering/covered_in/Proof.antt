@@ -8,7 +8,8 @@ use borrow.Author.Needs.{needs}
 use Rattle.rules.proofs.Laws.Bools.{both}
 use Rattle.words.specs.Sets.{inSet}
 use Rattle.pool.specs.Pools.{Table, tableOf, PoolOk}
-use Rattle.pool.proofs.Covered.{Used, NoneYet, none-next, answered, used, covered-here, covered-at, nothing-asked, none-asked-covers}
+use Rattle.pool.proofs.Gathered.{Used, used}
+use Rattle.pool.proofs.Covered.{NoneYet, none-next, answered, covered-here, covered-at, nothing-asked, none-asked-covers}
 use Rattle.pool.proofs.covering.covered_in.Statement.{statement}
 use Rattle.pool.proofs.covering.covered_in.Tie as tie
 

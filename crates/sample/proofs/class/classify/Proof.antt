@@ -68,20 +68,8 @@ first-covering-requires c κs = search needs
 enum-known-p : tie.Need-enum-known-p
 enum-known-p c = search needs
 
-add-e : tie.Need-add-e
-add-e c = let f = positive-found (c .before) .fits in omega arith
-
-mul-result : tie.Need-mul-result
-mul-result c = let f = positive-found (c .before) .fits in omega arith
-
-sub-result-3 : tie.Need-sub-result-3
-sub-result-3 c = search needs
-
-part-result-start-3 : tie.Need-part-result-start-3
-part-result-start-3 c = search needs
-
-part-result-end-3 : tie.Need-part-result-end-3
-part-result-end-3 c = let f = positive-found (c .before) .fits in omega arith
+row-at-requires : tie.Need-row-at-requires
+row-at-requires c κs = positive-found (c .before) .fits
 
 returns-3 : tie.Need-returns-3
 unfolding classPart classStart
@@ -90,7 +78,7 @@ returns-3 c =
     let a = lent (p .before .before) .args in
     let f = positive-found p in
     rw (is-positive (a .positives .now) (a .negatives .now) (a .row .now) (a .positions) (omega arith) (omega arith) (f .number) (f .first))
-    (part-at (a .positives .now) (a .positives .ptr) (p .p .given .0 .0) (f .number) (f .index))
+    (part-at (a .positives .now) (a .positives .ptr) (p .p .given .0 .0) (f .number) _ _ (f .index) (c .row-at .ensures))
 
 enum-told : tie.Need-enum-told
 enum-told c = search needs
@@ -104,14 +92,14 @@ enum-known-n c = search needs
 enum-told-2 : tie.Need-enum-told-2
 enum-told-2 c = search needs
 
-sub-result-4 : tie.Need-sub-result-4
-sub-result-4 c = search needs
+sub-result-3 : tie.Need-sub-result-3
+sub-result-3 c = search needs
 
-part-result-start-4 : tie.Need-part-result-start-4
-part-result-start-4 c = search needs
+part-result-start-3 : tie.Need-part-result-start-3
+part-result-start-3 c = search needs
 
-part-result-end-4 : tie.Need-part-result-end-4
-part-result-end-4 c = search needs
+part-result-end-3 : tie.Need-part-result-end-3
+part-result-end-3 c = search needs
 
 returns-4 : tie.Need-returns-4
 unfolding classPart classStart
@@ -123,20 +111,8 @@ returns-4 c =
     (two .first-covering2 .result) (two .first-covering2 .ensures) (c .before .enum-told2 .given .1) in
     rw (is-nowhere (a .positives .now) (a .negatives .now) (a .row .now) (a .positions) (omega arith) (omega arith) (no-positive two) no-negative) (refl, refl)
 
-add-e-2 : tie.Need-add-e-2
-add-e-2 c = let f = negative-found (c .before) .fits in omega arith
-
-mul-result-2 : tie.Need-mul-result-2
-mul-result-2 c = let f = negative-found (c .before) .fits in omega arith
-
-sub-result-5 : tie.Need-sub-result-5
-sub-result-5 c = search needs
-
-part-result-start-5 : tie.Need-part-result-start-5
-part-result-start-5 c = search needs
-
-part-result-end-5 : tie.Need-part-result-end-5
-part-result-end-5 c = let f = negative-found (c .before) .fits in omega arith
+row-at-requires-2 : tie.Need-row-at-requires-2
+row-at-requires-2 c κs = negative-found (c .before) .fits
 
 returns-5 : tie.Need-returns-5
 unfolding classPart classStart
@@ -146,7 +122,7 @@ returns-5 c =
     let a = lent2 two .args in
     let f = negative-found n in
     rw (is-negative (a .positives .now) (a .negatives .now) (a .row .now) (a .positions) (omega arith) (omega arith) (f .number) (no-positive two) (f .first))
-    (part-at (a .negatives .now) (a .negatives .ptr) (n .n .given .0 .0) (f .number) (f .index))
+    (part-at (a .negatives .now) (a .negatives .ptr) (n .n .given .0 .0) (f .number) _ _ (f .index) (c .row-at2 .ensures))
 
 pub classify-spec : {M : Type 1} → statement M
 classify-spec =
@@ -162,23 +138,15 @@ classify-spec =
     returns-2
     first-covering-requires
     enum-known-p
-    add-e
-    mul-result
-    sub-result-3
-    part-result-start-3
-    part-result-end-3
+    row-at-requires
     returns-3
     enum-told
     first-covering-requires-2
     enum-known-n
     enum-told-2
-    sub-result-4
-    part-result-start-4
-    part-result-end-4
+    sub-result-3
+    part-result-start-3
+    part-result-end-3
     returns-4
-    add-e-2
-    mul-result-2
-    sub-result-5
-    part-result-start-5
-    part-result-end-5
+    row-at-requires-2
     returns-5)
