@@ -12,12 +12,12 @@ use borrow.Author.Tests.{lt-ltb, le-ltb, ltb-true, ltb-false}
 use Rattle.sample.specs.declared.numbers.SampleNo.{SampleNo}
 use Rattle.sample.specs.declared.numbers.Sign.{Sign}
 use Rattle.sample.specs.declared.numbers.Sign.the-variants.{Positive, Negative}
-use Rattle.constraint.specs.declared.right.Right.{Right}
+use Rattle.constraint.specs.declared.cons.Cons.{Cons}
 use Rattle.constraint.specs.declared.loss.Loss.{Loss}
 use Rattle.constraint.specs.declared.loss.Loss.the-variants.{Nothing, Drops, Decides}
-use Rattle.constraint.specs.declared.loss.Outcome.the-variants.{Stays}
+use Rattle.constraint.specs.declared.loss.Outcome.the-variants.{Untouched, Stays}
 use Rattle.constraint.specs.Losses.{lossNo, remainsNo}
-use Rattle.constraint.specs.Numbered.{Numbered, plain, rightNo, anyNo, outside, rightIs, rightOutside, FateNo, untouchedNo, droppedNo, remainingNo, judgedNo, fateNo, saysNo}
+use Rattle.constraint.specs.Numbered.{plain, rightNo, numbersOf, ConsOk, anyNo, outside, rightIs, rightOutside, FateNo, untouchedNo, droppedNo, remainingNo, judgedNo, fateNo, saysNo}
 
 pub both-lost : (g : Sign) → Drops ≡ lossNo true true g
 unfolding lossNo
@@ -37,16 +37,32 @@ several-stay (suc zero) first r h l = absurd (l refl)
 several-stay (suc (suc n)) first r h l = refl
 
 -- What remains, told by the count and the first number, is what the numbers amount to.
-pub remains-says : (right : Right) (n : ℕ) (l : List SampleNo) (d : SampleNo) (r : Option ℕ) → rightNo right ≡ r → n ≤ length l
-    → saysNo (remainsNo n (getD l 0 d .0) r) (record { n = n; right = right; left = l }) ≡ remainingNo (plain (take n l)) r
-unfolding remainsNo saysNo remainingNo plain
-remains-says right zero l d none e h = refl
-remains-says right zero l d (some q) e h = refl
-remains-says right (suc n) [] d r e h = absurd (omega arith)
-remains-says right (suc zero) (x ∷ l) d none e h = refl
-remains-says right (suc zero) (x ∷ l) d (some q) e h = rw e
-remains-says right (suc (suc n)) (x ∷ []) d r e h = absurd (omega arith)
-remains-says right (suc (suc n)) (x ∷ y ∷ l) d r e h = rw e
+pub remains-says : (c : Cons) (d : SampleNo) → ConsOk c
+    → saysNo (remainsNo (c .n) (getD (c .left) 0 d .0) (rightNo (c .right))) c ≡ remainingNo (numbersOf c .left) (numbersOf c .right)
+unfolding remainsNo saysNo remainingNo
+remains-says c d ok = go (c .n) (c .left) (rightNo (c .right)) refl (omega (arith, ok .few, ok .room))
+  where
+    go : (n : ℕ) (l : List SampleNo) (r : Option ℕ) → rightNo (c .right) ≡ r → n ≤ length l
+        → saysNo (remainsNo n (getD l 0 d .0) r) (record { n = n; right = c .right; left = l }) ≡ remainingNo (plain (take n l)) r
+    go zero l none e h = refl
+    go zero l (some q) e h = refl
+    go (suc n) [] r e h = absurd (omega arith)
+    go (suc zero) (x ∷ l) none e h = refl
+    go (suc zero) (x ∷ l) (some q) e h = rw e
+    go (suc (suc n)) (x ∷ []) r e h = absurd (omega arith)
+    go (suc (suc n)) (x ∷ y ∷ l) r e h = rw e
+
+-- What remains was touched.
+pub remains-touched : (n first : ℕ) (r : Option ℕ) → remainsNo n first r ≡ Untouched → ⊥
+unfolding remainsNo
+remains-touched n first r h = let z = go n r h in omega arith
+  where
+    go : (n : ℕ) (r : Option ℕ) → remainsNo n first r ≡ Untouched → _≡_ {A = ℕ} 0 1
+    go zero none e = cc
+    go zero (some q) e = cc
+    go (suc zero) none e = cc
+    go (suc zero) (some q) e = cc
+    go (suc (suc n)) r e = cc
 
 -- Fewer are left if one was lost.
 outside-short : (test : ℕ → Bool) (l : List ℕ) → length (outside test l) ≤ length l
@@ -80,8 +96,9 @@ unfolding plain
 plain-length [] = refl
 plain-length (s ∷ l) = rw (plain-length l)
 
-pub plain-count : (n : ℕ) (l : List SampleNo) → n ≤ length l → length (plain (take n l)) ≡ n
-plain-count n l h = plain-length (take n l) ∙ length-take-le n l h
+count : (c : Cons) → ConsOk c → length (numbersOf c .left) ≡ c .n
+unfolding numbersOf
+count c ok = plain-length (take (c .n) (c .left)) ∙ length-take-le (c .n) (c .left) (omega (arith, ok .few, ok .room))
 
 -- The fate by the loss.
 unfoldable pub byLoss : Loss → FateNo → FateNo
@@ -100,11 +117,13 @@ judged-by-loss Negative true false rest = refl
 judged-by-loss Positive false true rest = refl
 judged-by-loss Negative false true rest = refl
 
--- n and k are the counts before and after.
-pub fate-by-loss : (test : ℕ → Bool) (g : Sign) (c : Numbered) (rest : List ℕ) (n k : ℕ) (loss : Loss) (right : Bool) → rest ≡ outside test (c .left)
-    → length (c .left) ≡ n → length rest ≡ k → right ≡ rightIs test (c .right) → loss ≡ lossNo (ltb k n) right g
-    → fateNo test g c ≡ byLoss loss (remainingNo rest (rightOutside test (c .right)))
+-- What is left of a constraint, by the counts before and after.
+pub fate-by-loss : (test : ℕ → Bool) (g : Sign) (c rest : Cons) (loss : Loss) (right : Bool) → ConsOk c → ConsOk rest
+    → numbersOf rest .left ≡ outside test (numbersOf c .left) → numbersOf rest .right ≡ rightOutside test (numbersOf c .right)
+    → right ≡ rightIs test (numbersOf c .right) → loss ≡ lossNo (ltb (rest .n) (c .n)) right g
+    → fateNo test g (numbersOf c) ≡ byLoss loss (remainingNo (numbersOf rest .left) (numbersOf rest .right))
 unfolding fateNo
-fate-by-loss test g c rest n k loss right e p q r h =
-    let lost : ltb k n ≡ anyNo test (c .left) = rw (← p, ← q, e) (fewer-left test (c .left)) in
-    rw (h, lost, r, e) (judged-by-loss g (anyNo test (c .left)) (rightIs test (c .right)) (remainingNo (outside test (c .left)) (rightOutside test (c .right))))
+fate-by-loss test g c rest loss right p q e f r h =
+    let lost : ltb (rest .n) (c .n) ≡ anyNo test (numbersOf c .left) = rw (← e, count rest q, count c p) at (fewer-left test (numbersOf c .left)) in
+    rw (h, lost, r, e, f)
+    (judged-by-loss g (anyNo test (numbersOf c .left)) (rightIs test (numbersOf c .right)) (remainingNo (outside test (numbersOf c .left)) (rightOutside test (numbersOf c .right))))

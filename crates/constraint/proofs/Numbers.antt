@@ -9,7 +9,7 @@ use native.Mathlib.Omega.{arith}
 use lib.Dec.{eqb, ltb}
 use borrow.Author.Tests.{ltb-true, ltb-false, ne-eqb}
 use lib.ListN.{length, getD, take, set}
-use lib.Seq.{slice, slice-cons, slice-empty, take-suc-set}
+use lib.Seq.{slice, slice-cons, slice-empty, take-suc-set, take-set-lt, drop-set-lt}
 use Rattle.words.specs.Sets.{inSet, Holds}
 use Rattle.words.proofs.FourWords.{past}
 use Rattle.words.specs.declared.set.Set.{Set}
@@ -85,6 +85,10 @@ written : (out : List SampleNo) (k : ℕ) (s : SampleNo) (rest : List ℕ) → k
 unfolding plain
 written out k s rest h = rw (add-one, take-suc-set out k s h, plain-append (take k out) (s ∷ [])) (append-assoc (plain (take k out)) (s .0 ∷ []) rest)
 
+-- Those to come are not touched by a write before them.
+from-later : (i n : ℕ) (l : List SampleNo) (k : ℕ) (s : SampleNo) → k < i → i ≤ n → from i n (set l k s) ≡ from i n l
+from-later i n l k s h b = rw (take-set-lt n l k s (omega arith), drop-set-lt i (take n l) k s h)
+
 module _ (l : List SampleNo) (i n : ℕ) (d : SampleNo) (h : i < n) (room : n ≤ length l) where
   from-next : from i n l ≡ getD l i d .0 ∷ from (i + 1) n l
   unfolding plain
@@ -95,18 +99,21 @@ module _ (l : List SampleNo) (i n : ℕ) (d : SampleNo) (h : i < n) (room : n �
   unfolding anyNo
   any-next test b e = rw (from-next, e)
 
-  -- Those outside a set, after those already written: the next one is in the set, or it is written.
+  -- Those outside a set, which move to the front of the same list: the next one is in the set, or it is written at k.
   outside-next : (test : ℕ → Bool) (b : Bool) → test (getD l i d .0) ≡ b
       → outside test (from i n l) ≡ cond b (outside test (from (i + 1) n l)) (getD l i d .0 ∷ outside test (from (i + 1) n l))
   unfolding outside
   outside-next test b e = rw (from-next, e)
 
-  pub skip-next : (test : ℕ → Bool) (done all : List ℕ) → test (getD l i d .0) ≡ true → done ++ outside test (from i n l) ≡ all → done ++ outside test (from (i + 1) n l) ≡ all
-  skip-next test done all e g = rw (outside-next test true e) at g
+  pub skip-next : (test : ℕ → Bool) (k : ℕ) (all : List ℕ) → test (getD l i d .0) ≡ true
+      → plain (take k l) ++ outside test (from i n l) ≡ all → plain (take k l) ++ outside test (from (i + 1) n l) ≡ all
+  skip-next test k all e g = rw (outside-next test true e) at g
 
-  pub write-next : (test : ℕ → Bool) (out : List SampleNo) (k : ℕ) (all : List ℕ) → k < length out → test (getD l i d .0) ≡ false
-      → plain (take k out) ++ outside test (from i n l) ≡ all → plain (take (k + 1) (set out k (getD l i d))) ++ outside test (from (i + 1) n l) ≡ all
-  write-next test out k all h e g = written out k (getD l i d) (outside test (from (i + 1) n l)) h ∙ (rw (outside-next test false e) at g)
+  pub write-next : (test : ℕ → Bool) (k : ℕ) (all : List ℕ) → k ≤ i → test (getD l i d .0) ≡ false → plain (take k l) ++ outside test (from i n l) ≡ all
+      → plain (take (k + 1) (set l k (getD l i d))) ++ outside test (from (i + 1) n (set l k (getD l i d))) ≡ all
+  write-next test k all b e g =
+      rw (from-later (i + 1) n l k (getD l i d) (omega arith) (omega arith))
+      (written l k (getD l i d) (outside test (from (i + 1) n l)) (omega arith) ∙ (rw (outside-next test false e) at g))
 
   -- A set that gathers them.
   pub gather-next : (s r : Set) (k : ℕ) (all : List ℕ) → (k ≡ getD l i d .0) × (k < 256) → Holds r (λ j. eqb j k || inSet s j)

@@ -3,9 +3,9 @@ ghost use mathlib.Core.Path.{_≡_};
 ghost use mathlib.Core.Bool.{_||_};
 ghost use Prim.Native.Nat.{ℕ, _≤_};
 ghost use lib.Dec.{eqb};
-ghost use lib.ListN.{length, take};
 ghost use Rattle.words.specs.Sets.{inSet, Holds};
-ghost use Rattle.constraint.specs.Numbered.{plain, numbersOf, ConsOk, isIn, anyNo, outside, rightIs, fateNo, saysNo, needlessNo, namesNo};
+ghost use Rattle.constraint.specs.Numbered.{numbersOf, ConsOk, isIn, anyNo, outside, rightIs, rightOutside, fateNo, saysNo, needlessNo, namesNo};
+ghost use Rattle.constraint.specs.declared.loss.Outcome.the-variants.{Untouched};
 use crate::loss::Loss;
 use crate::loss::Outcome;
 use crate::loss::loss_of;
@@ -27,11 +27,6 @@ pub struct Cons {
 pub struct Changed {
     pub cons: Cons,
     pub out: Outcome,
-}
-
-pub struct Lefts {
-    pub left: [SampleNo; 16],
-    pub n: usize,
 }
 
 impl Cons {
@@ -103,35 +98,36 @@ impl Cons {
         l
     }
 
-    // The left samples outside the set.
-    pub fn left_outside(self, set: Set) -> Lefts
+    // Loses the samples of the set on both sides: what is left of it.
+    pub fn without(mut self, set: Set) -> Cons
         requires { ⌜ ConsOk self ⌝ }
-        ensures { λ r. ⌜ (r .n ≤ self .n) × (length (r .left) ≡ 16) × (plain (take (r .n) (r .left)) ≡ outside (inSet set) (numbersOf self .left)) ⌝ }
+        ensures { λ r. ⌜ ConsOk r × (numbersOf r .left ≡ outside (inSet set) (numbersOf self .left)) × (numbersOf r .right ≡ rightOutside (inSet set) (numbersOf self .right)) × (r .n ≤ self .n) ⌝ }
     {
-        let mut out = [SampleNo(0); 16];
-        let mut k: usize = 0;
         let n = wide(self.n);
+        let mut k: usize = 0;
         let mut i: usize = 0;
         while i < n {
             let s = self.left[i];
             if !set.has(s.at()) {
-                out[k] = s;
+                self.left[k] = s;
                 k = k + 1;
             }
             i = i + 1;
         }
-        Lefts { left: out, n: k }
+        self.n = (k % 256) as u8;
+        let r = self.right;
+        self.right = r.outside(set);
+        self
     }
 
     // Loses the samples of the set, which now have the sign g.
     pub fn loses(self, set: Set, g: Sign) -> Changed
         requires { ⌜ ConsOk self ⌝ }
-        ensures { λ r. ⌜ (saysNo (r .out) (r .cons) ≡ fateNo (inSet set) g (numbersOf self)) × ConsOk (r .cons) ⌝ }
+        ensures { λ r. ⌜ (saysNo (r .out) (r .cons) ≡ fateNo (inSet set) g (numbersOf self)) × ConsOk (r .cons) × (r .out ≡ Untouched → r .cons ≡ self) ⌝ }
     {
-        let rest = self.left_outside(set);
+        let rest = self.without(set);
         let r = self.right;
-        let k = rest.n;
-        let h = loss_of(k < wide(self.n), r.lies_in(set), g);
+        let h = loss_of(rest.n < self.n, r.lies_in(set), g);
         match h {
             Loss::Nothing => Changed {
                 cons: self,
@@ -142,17 +138,10 @@ impl Cons {
                 out: Outcome::Dropped,
             },
             Loss::Decides => {
-                let left = rest.left;
-                let right = r.outside(set);
-                let o = remaining(k, left[0], right);
-                Changed {
-                    cons: Cons {
-                        n: (k % 256) as u8,
-                        right: right,
-                        left: left,
-                    },
-                    out: o,
-                }
+                let first = rest.left[0];
+                let right = rest.right;
+                let o = remaining(wide(rest.n), first, right);
+                Changed { cons: rest, out: o }
             }
         }
     }
