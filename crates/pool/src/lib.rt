@@ -1,4 +1,4 @@
-// The samples by number: sets of numbers as words of bits, the pool of rows with its order, and the questions about covering.
+// Samples by number: rows in flat arrays, the order of the numbers, and every question about covering.
 
 mod covering;
 mod order;
