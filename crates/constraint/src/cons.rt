@@ -11,14 +11,14 @@ use words::Set;
 
 // The left samples are the first n of `left`, each once.
 #[repr(C)]
-#[derive(Drop)]
+#[derive(Clone, Copy)]
 pub struct Cons {
     pub n: u8,
     pub right: Right,
     pub left: [SampleNo; 16],
 }
 
-#[derive(Drop)]
+#[derive(Clone, Copy)]
 pub struct Changed {
     pub cons: Cons,
     pub out: Outcome,

@@ -1,4 +1,6 @@
 // A constraint as sample numbers with an optional right: what it loses, what becomes of it, and how two compare.
+#![tactic(auto)]
+
 mod cons;
 mod loss;
 mod right;

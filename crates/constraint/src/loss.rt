@@ -7,7 +7,7 @@ use crate::right::Right;
 use sample::{SampleNo, Sign};
 
 // What becomes of a constraint that loses samples.
-#[derive(Drop)]
+#[derive(Clone, Copy)]
 pub enum Outcome {
     Untouched,
     Stays,
@@ -17,7 +17,7 @@ pub enum Outcome {
 }
 
 // By the sides that a loss is on: it changes nothing, it drops the constraint, or what is left decides.
-#[derive(Drop)]
+#[derive(Clone, Copy)]
 pub enum Loss {
     Nothing,
     Drops,

@@ -8,7 +8,7 @@ use sample::SampleNo;
 use words::Set;
 
 #[repr(C)]
-#[derive(Drop)]
+#[derive(Clone, Copy)]
 pub struct Right {
     pub there: bool,
     pub no: SampleNo,

@@ -83,7 +83,7 @@ pub fn below<'a>(
 }
 
 #[repr(C)]
-#[derive(Drop)]
+#[derive(Clone, Copy)]
 pub struct Waited {
     pub set: Set,
     pub fresh: bool,
@@ -119,7 +119,7 @@ pub fn waits<'a>(
 
 // A drawn sample: whether it is kept, the kept set after it, and all that it covers.
 #[repr(C)]
-#[derive(Drop)]
+#[derive(Clone, Copy)]
 pub struct Keeping {
     pub set: Set,
     pub below: Set,

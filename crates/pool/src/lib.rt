@@ -1,4 +1,5 @@
 // Samples by number: rows in flat arrays, the order of the numbers, and every question about covering.
+#![tactic(auto)]
 
 mod covering;
 mod order;

@@ -9,7 +9,7 @@ use crate::rows::row_at;
 use sample::{Rank, Row, SampleNo};
 use words::Set;
 
-#[derive(Drop)]
+#[derive(Clone, Copy)]
 pub enum First {
     At(SampleNo),
     Nothing,
@@ -34,7 +34,7 @@ pub fn first_in<'a>(n: usize, order: &'a [u8; 256], set: Set) -> First
     First::Nothing
 }
 
-#[derive(Drop)]
+#[derive(Clone, Copy)]
 pub enum Place {
     Here(SampleNo),
     Gap(usize),

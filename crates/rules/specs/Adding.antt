@@ -1,5 +1,5 @@
 -- Adding a clause: its refusals, and steps 1 to 7.
-use Rattle.std.specs.Prelude.{Bool, true, false, cond, not, ◌&&◌, ◌||◌, List, [], ◌∷◌, ℕ, zero, suc, ℤ, leb, length, set}
+use Rattle.std.specs.Prelude.{Bool, true, false, cond, not, ◌&&◌, List, [], ◌∷◌, ℕ, suc, ℤ, leb, length, set}
 use Rattle.std.proofs.Math.Option.{Option, none, some}
 use Rattle.rules.specs.Sizes.{max_samples, max_constraints}
 use Rattle.rules.specs.Samples.{Sample, total}

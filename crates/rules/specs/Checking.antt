@@ -1,9 +1,8 @@
 -- Check: settle, then seek a kept positive and a kept negative that overlap.
-use Rattle.std.specs.Prelude.{Bool, cond, List, [], ◌∷◌, ◌++◌, ℕ, ℤ, pos, replicate}
-use Rattle.std.proofs.Math.Option.{Option, none, some}
+use Rattle.std.specs.Prelude.{cond, List, [], ◌∷◌, ℕ, ℤ, pos, replicate}
 use Rattle.rules.specs.Sizes.{shown_size}
 use Rattle.rules.specs.Samples.{Sample, overlaps}
-use Rattle.rules.specs.Contents.{Sides, Held, Contents, with_held}
+use Rattle.rules.specs.Contents.{Sides, Contents, with_held}
 use Rattle.rules.specs.Numbers.{Answer, Outcome, done, refused, is_marked, contradiction, number, done_number, overlap_number, when, refuse, unless}
 use Rattle.rules.specs.Rows.{shown_row}
 use Rattle.rules.specs.Settling.{Settled, contradicted, settled, settle_held}

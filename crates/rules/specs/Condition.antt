@@ -1,7 +1,6 @@
 -- The condition on a store: what a new store meets and every call keeps. Nothing more is asked of a store.
-use Rattle.std.specs.Prelude.{◌≡◌, Bool, true, false, List, [], ◌∷◌, ◌++◌, ◌⊎◌, ℕ, ◌≤◌, length, get_or}
-use Rattle.std.proofs.Math.Option.{Option, none, some}
-use Rattle.std.proofs.Math.ListN.{get_elem?}
+use Rattle.std.specs.Prelude.{◌≡◌, true, false, List, [], ◌∷◌, ◌⊎◌, ℕ, ◌≤◌, length, get_or}
+use Rattle.std.proofs.Math.Option.{some}
 use Rattle.rules.specs.Sizes.{max_predicates, max_positions, max_samples, max_constraints}
 use Rattle.rules.specs.Values.{Sort}
 use Rattle.rules.specs.Samples.{Sample, valid_sample, covers, total, before}

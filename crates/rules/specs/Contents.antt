@@ -1,5 +1,5 @@
 -- What a store contains: declarations, kept and waiting sets, constraints by number, marks. Sample numbers show nowhere.
-use Rattle.std.specs.Prelude.{Bool, true, false, List, [], ◌∷◌, ◌++◌, ℕ, zero, suc, ◌+◌, length, replicate}
+use Rattle.std.specs.Prelude.{Bool, true, false, List, [], ◌∷◌, ◌++◌, ℕ, suc, replicate}
 use Rattle.std.proofs.Math.Option.{Option, none, some}
 use Rattle.rules.specs.Sizes.{max_constraints}
 use Rattle.rules.specs.Values.{Sort}

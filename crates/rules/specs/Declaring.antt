@@ -1,5 +1,5 @@
 -- Declaring a predicate: the sort numbers of its positions.
-use Rattle.std.specs.Prelude.{Bool, not, List, [], ◌∷◌, ◌++◌, ℕ, leb, ltb, length}
+use Rattle.std.specs.Prelude.{List, [], ◌∷◌, ◌++◌, ℕ, leb, ltb, length}
 use Rattle.std.proofs.Math.Option.{Option, none, some}
 use Rattle.rules.specs.Sizes.{max_predicates, max_positions}
 use Rattle.rules.specs.Values.{Sort, sort_of}

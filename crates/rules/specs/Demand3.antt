@@ -1,15 +1,14 @@
 -- Demand 3, as statements without proofs: the page to read. The proofs stand in proofs/Demand3.antt.
-use Rattle.std.specs.Prelude.{◌≡◌, Bool, true, false, List, [], ◌∷◌, ◌↔◌, ◌⊎◌, ℕ, zero, suc, ◌≤◌, ℤ}
+use Rattle.std.specs.Prelude.{◌≡◌, Bool, true, false, List, [], ◌∷◌, ◌↔◌, ◌⊎◌, ℕ, suc, ◌≤◌, ℤ}
 use Rattle.std.proofs.Math.Option.{Option, none, some}
 use Rattle.rules.specs.Values.{Sort}
 use Rattle.rules.specs.Samples.{Sample}
-use Rattle.rules.specs.Contents.{Sign, positive, negative, Constraint, Clause, Held, Contents, with_held}
-use Rattle.rules.specs.Numbers.{Refusal, contradiction, Answer, done, refused, Outcome}
+use Rattle.rules.specs.Contents.{Sign, positive, negative, Clause, Held, Contents, with_held}
+use Rattle.rules.specs.Numbers.{contradiction, Answer, done, refused}
 use Rattle.rules.specs.Rows.{rows_of, samples_in, clause_of}
 use Rattle.rules.specs.Satisfying.{Assignment, Satisfies, holds, SatisfiesHeld}
-use Rattle.rules.specs.Settling.{Drawn, idle, drawn, draw, Counts, size}
+use Rattle.rules.specs.Settling.{drawn, draw, Counts, size}
 use Rattle.rules.specs.Checking.{Verdict, check_code}
-use Rattle.rules.specs.Forcing.{losses}
 
 -- An assignment satisfies what the store holds, waiting samples included; none does.
 abbrev pub SatisfiedBy : Assignment → Contents → Type 0

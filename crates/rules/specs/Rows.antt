@@ -1,11 +1,11 @@
 -- Rows: how samples stand in lent lists, and the tests of a row in their order.
-use Rattle.std.specs.Prelude.{Bool, true, false, cond, not, ◌&&◌, ◌||◌, List, [], ◌∷◌, ◌++◌, ℕ, zero, suc, ◌+◌, ◌*◌, ◌-◌, ◌/◌, ◌%◌, ◌^◌, ℤ, pos, negsuc, eqb, ltb, leb, length, get_or, take, drop}
+use Rattle.std.specs.Prelude.{Bool, true, false, not, ◌&&◌, List, [], ◌∷◌, ◌++◌, ℕ, zero, suc, ◌+◌, ◌*◌, ◌-◌, ◌/◌, ◌%◌, ◌^◌, ℤ, pos, negsuc, eqb, ltb, leb, length, get_or, take, drop}
 use Rattle.std.proofs.Math.Option.{Option, none, some}
 use Rattle.std.proofs.Math.ListN.{get_elem?}
-use Rattle.rules.specs.Sizes.{max_positions, max_left, row_size, shown_size}
+use Rattle.rules.specs.Sizes.{max_positions, max_left, row_size}
 use Rattle.rules.specs.Values.{Value, Sort, equal_value, valid_value, blank}
 use Rattle.rules.specs.Samples.{Position, Sample}
-use Rattle.rules.specs.Contents.{Constraint, Clause}
+use Rattle.rules.specs.Contents.{Clause}
 use Rattle.rules.specs.Numbers.{Refusal, undeclared, bad_mask, bad_value, when, or_else, first_of}
 
 -- Predicate, mask, six values.

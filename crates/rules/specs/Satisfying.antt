@@ -3,7 +3,7 @@ use Rattle.std.specs.Prelude.{◌≡◌, Bool, true, false, not, ◌&&◌, ◌||
 use Rattle.std.proofs.Math.Option.{Option, none, some}
 use Rattle.rules.specs.Values.{Value, Sort}
 use Rattle.rules.specs.Samples.{Position, Sample, valid_positions, covers_all}
-use Rattle.rules.specs.Contents.{Sign, positive, negative, Sides, Constraint, Slot, Held, Contents}
+use Rattle.rules.specs.Contents.{Sign, positive, negative, Sides, Constraint, Slot, Held}
 use Rattle.rules.specs.Rows.{value_of}
 
 -- A total vector, and the set of total vectors that an assignment gives each predicate.

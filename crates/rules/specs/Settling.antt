@@ -1,5 +1,5 @@
 -- Settling: a draw, what it does to the live constraints, and draws until nothing waits.
-use Rattle.std.specs.Prelude.{Bool, true, false, cond, not, ◌&&◌, ◌||◌, List, [], ◌∷◌, ℕ, zero, suc, ◌+◌, length}
+use Rattle.std.specs.Prelude.{Bool, true, false, cond, List, [], ◌∷◌, ℕ, zero, suc, ◌+◌, length}
 use Rattle.std.proofs.Math.Option.{Option, none, some}
 use Rattle.rules.specs.Samples.{Sample, covers}
 use Rattle.rules.specs.Sets.{any, without, covered_by, keep}

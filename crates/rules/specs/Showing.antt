@@ -1,5 +1,5 @@
 -- Show P, without settling, into one lent list.
-use Rattle.std.specs.Prelude.{Bool, List, [], ◌∷◌, ◌++◌, ℕ, ◌+◌, ℤ, ltb, length, drop}
+use Rattle.std.specs.Prelude.{List, [], ◌∷◌, ◌++◌, ℕ, ℤ, ltb, length, drop}
 use Rattle.std.proofs.Math.Option.{Option, none, some}
 use Rattle.rules.specs.Samples.{Sample, single}
 use Rattle.rules.specs.Sets.{only, include_all}

@@ -38,7 +38,7 @@ pub fn row_covers(list: &[i64], at: usize, row: &[i64], positions: usize) -> boo
 }
 
 // Where a row starts in its list.
-#[derive(Drop)]
+#[derive(Clone, Copy)]
 pub enum Found {
     At(usize),
     Nothing,

@@ -5,7 +5,7 @@ ghost use Rattle.sample.specs.Declarations.{declared_of, positions_of, DeclaredO
 use crate::numbers::{PredNo, wide};
 
 #[repr(C)]
-#[derive(Drop)]
+#[derive(Clone, Copy)]
 pub struct Declared {
     pub count: usize,
     pub positions: [u8; 16],

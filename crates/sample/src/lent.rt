@@ -10,7 +10,7 @@ use crate::declared::Declared;
 use crate::numbers::{PredNo, wide};
 use crate::row::{Row, known};
 
-#[derive(Drop)]
+#[derive(Clone, Copy)]
 pub enum RowTest {
     Fits,
     Undeclared,

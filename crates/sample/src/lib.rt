@@ -1,4 +1,6 @@
 // Numbers, signs and rows: what a sample is in the code, and its tests one by one.
+#![tactic(auto)]
+
 mod class;
 mod declared;
 mod lent;

@@ -3,18 +3,18 @@ ghost use Rattle.std.specs.Prelude.{◌≡◌, ◌<◌};
 ghost use Rattle.sample.specs.Signs.{sign_no};
 
 #[repr(C)]
-#[derive(Drop)]
+#[derive(Clone, Copy)]
 pub struct PredNo(pub u8);
 
 #[repr(C)]
-#[derive(Drop)]
+#[derive(Clone, Copy)]
 pub struct SampleNo(pub u8);
 
 #[repr(C)]
-#[derive(Drop)]
+#[derive(Clone, Copy)]
 pub struct ConsNo(pub u8);
 
-#[derive(Drop)]
+#[derive(Clone, Copy)]
 pub enum Sign {
     Positive,
     Negative,

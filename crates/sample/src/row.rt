@@ -11,7 +11,7 @@ use crate::numbers::PredNo;
 
 // A sample: its predicate, a mask of its known positions, and six values, 0 where unknown or unused.
 #[repr(C)]
-#[derive(Drop)]
+#[derive(Clone, Copy)]
 pub struct Row {
     pub pred: PredNo,
     pub mask: u8,
@@ -19,14 +19,14 @@ pub struct Row {
 }
 
 // The two ways in which a sample can agree with another.
-#[derive(Drop)]
+#[derive(Clone, Copy)]
 pub enum Way {
     Covers,
     Overlaps,
 }
 
 // How two samples stand in the order.
-#[derive(Drop)]
+#[derive(Clone, Copy)]
 pub enum Rank {
     Before,
     Same,

@@ -1,11 +1,11 @@
 -- The bits of one word: of each word operation, of a single bit, past the width, and a bit of any word that is not 0.
 use mathlib.Core.Path.{◌≡◌, refl, ◌∙◌}
 use mathlib.Core.Bool.{Bool, true, false, not, ◌&&◌, ◌||◌, and_comm, or_comm}
-use Prim.Native.Nat.{ℕ, zero, suc, ◌+◌, ◌-◌, ◌*◌, ◌/◌, ◌%◌, ◌^◌, min, max, ◌≤◌, ◌<◌}
-use native.Mathlib.Nat.{pow-suc, zero-div, div-eq_of_lt}
+use Prim.Native.Nat.{ℕ, zero, suc, ◌+◌, ◌-◌, ◌*◌, ◌/◌, ◌%◌, ◌^◌, min, max, ◌<◌}
+use native.Mathlib.Nat.{pow-suc, zero-div}
 use native.Mathlib.Omega.{arith}
 use lib.Dec.{eqb, eqb-zero-suc, eqb-suc-zero, eqb-suc-suc}
-use lib.Pow.{shr-shr, pow_pos, pow_mono, shl_exact}
+use lib.Pow.{shr-shr, pow_pos, shl_exact}
 use lib.Bits.{bit_and, bit_or, and_step, or_step, and_shr, or_shr}
 use Rattle.rules.specs.Rows.{bit}
 use Rattle.words.specs.Sets.{Bits}

@@ -1,5 +1,5 @@
 -- A set by its four words: from what holds of each word to what holds of the set.
-use mathlib.Core.Path.{◌≡◌, refl, ap, sym, ◌∙◌}
+use mathlib.Core.Path.{◌≡◌, refl, ap, subst, sym, ◌∙◌}
 use mathlib.Core.Bool.{Bool, true, false, cond, ◌&&◌}
 use Prim.Native.Nat.{ℕ, zero, suc, ◌+◌, ◌*◌, ◌/◌, ◌%◌, ◌^◌, ◌≤◌, ◌<◌}
 use native.Mathlib.Omega.{arith}
@@ -118,6 +118,10 @@ emptiness s fa fb fc fd = go (eqb s.a 0) (eqb s.b 0) (eqb s.c 0) (eqb s.d 0) ref
       none = λ e. no_word s (by_word (λ j. word_at s j ≡ 0) (eqb-true s.a 0 p) (eqb-true s.b 0 q) (eqb-true s.c 0 r) (eqb-true s.d 0 t));
       some = λ e. both refl e;
     }
+
+pub emptiness_told : (s : Set) (told : Bool) → s.a < 2 ^ 64 → s.b < 2 ^ 64 → s.c < 2 ^ 64 → s.d < 2 ^ 64
+    → (((eqb s.a 0 && eqb s.b 0) && eqb s.c 0) && eqb s.d 0) ≡ told → Emptiness s told
+emptiness_told s told fa fb fc fd e = subst (Emptiness s) e (emptiness s fa fb fc fd)
 
 -- The members below a word's end: those before the word, and its bits.
 pub count_word : (s : Set) (j : ℕ) → count_of (in_set s) (64 * j + 64) ≡ count_of (in_set s) (64 * j) + count_of (bit (word_at s j)) 64

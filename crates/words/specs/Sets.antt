@@ -1,5 +1,5 @@
 -- What a set of numbers below 256 holds: number k is bit k % 64 of word k / 64.
-use Rattle.std.specs.Prelude.{◌≡◌, Bool, true, false, not, ◌&&◌, ◌||◌, List, [], ◌∷◌, ℕ, zero, suc, ◌/◌, ◌%◌, ◌<◌, eqb, get_or}
+use Rattle.std.specs.Prelude.{◌≡◌, Bool, true, false, [], ◌∷◌, ℕ, zero, suc, ◌/◌, ◌%◌, ◌<◌, get_or}
 use Rattle.rules.specs.Rows.{bit}
 use Rattle.rules.specs.Contents.{count_if}
 use Rattle.words.specs.declared.set.Set.{Set}

@@ -1,4 +1,6 @@
 // A set of numbers below 256, as four words of bits.
+#![tactic(auto)]
+
 mod set;
 mod word;
 

@@ -5,7 +5,7 @@ ghost use Rattle.words.specs.Sets.{word_at, in_set, count_of, Holds, Emptiness};
 use crate::word::{bit_in, both, either, less, ones, with_bit, without_bit};
 
 #[repr(C)]
-#[derive(Drop)]
+#[derive(Clone, Copy)]
 pub struct Set {
     pub a: u64,
     pub b: u64,

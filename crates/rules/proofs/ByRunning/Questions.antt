@@ -1,14 +1,13 @@
 -- Worked points are played as questions to the rules, each beside the text that is promised: script lines, and questions that no script line asks.
 use mathlib.Core.Bool.{Bool, true, false}
 use mathlib.Core.List.{List, [], ◌∷◌, ◌++◌}
-use mathlib.Core.Option.{Option, none, some}
-use Prim.Native.Nat.{ℕ, zero, suc}
+use mathlib.Core.Option.{none, some}
+use Prim.Native.Nat.{ℕ, suc}
 use Prim.Native.String.{String}
-use lib.IntN.{ℤ}
 use Rattle.rules.specs.Samples.{Sample, covers, overlaps, single}
 use Rattle.rules.specs.Contents.{Sign, side, Slot, Contents, new, is_live}
 use Rattle.rules.specs.Rows.{row_of, sample_of}
-use Rattle.rules.specs.Script.Bytes.{Bytes, text, newline, decimal}
+use Rattle.rules.specs.Script.Bytes.{Bytes, text, newline}
 use Rattle.rules.specs.Script.Reading.{read_sample}
 use Rattle.rules.specs.Script.Printing.{spaced, print_sample}
 use Rattle.rules.specs.Script.Running.{Played, play_line}

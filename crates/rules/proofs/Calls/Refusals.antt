@@ -1,8 +1,8 @@
 -- The order of refusals: each number is given exactly when its test fails and every test before it passes.
-use mathlib.Core.Path.{◌≡◌, refl}
-use mathlib.Core.Bool.{Bool, true, false, not}
-use mathlib.Core.List.{List, [], ◌∷◌}
-use mathlib.Core.Option.{Option, none, some}
+use mathlib.Core.Path.{◌≡◌}
+use mathlib.Core.Bool.{Bool, true, false}
+use mathlib.Core.List.{List}
+use mathlib.Core.Option.{none, some}
 use Prim.Native.Nat.{ℕ}
 use lib.IntN.{ℤ}
 use lib.Dec.{leb, ltb}
@@ -10,7 +10,7 @@ use lib.ListN.{length}
 use Rattle.rules.specs.Sizes.{max_predicates, max_positions}
 use Rattle.rules.specs.Samples.{Sample}
 use Rattle.rules.specs.Contents.{Contents}
-use Rattle.rules.specs.Numbers.{Refusal, undeclared, bad_mask, bad_value, has_unknown, bad_rows, no_sample_room, no_constraint_room, is_marked, no_predicate_room, short_output, when, or_else, first_of}
+use Rattle.rules.specs.Numbers.{Refusal, undeclared, bad_mask, bad_value, has_unknown, bad_rows, no_sample_room, no_constraint_room, is_marked, no_predicate_room, short_output}
 use Rattle.rules.specs.Rows.{Row, declared_as, mask_fits, values_fit, natural, row_refusal, rows_refusal, rows_fit, rows_of}
 use Rattle.rules.specs.Declaring.{declare_refusal, sorts_of}
 use Rattle.rules.specs.Adding.{add_refusal, unknown_among, samples_fit, constraints_full}

@@ -1,19 +1,18 @@
 -- How tight the promises are: every rule is a function, so two outcomes of a call on equal contents and equal input are equal; and contents are equal when their sets have the same members.
-use mathlib.Core.Path.{◌≡◌, refl, sym, ap, ◌∙◌}
+use mathlib.Core.Path.{◌≡◌, sym, ◌∙◌}
 use mathlib.Core.Bool.{Bool}
 use mathlib.Core.List.{List}
 use Prim.Native.Nat.{ℕ}
 use lib.IntN.{ℤ}
 use Rattle.rules.specs.Samples.{Sample}
 use Rattle.rules.specs.Contents.{Sides, Contents}
-use Rattle.rules.specs.Numbers.{Outcome}
-use Rattle.rules.specs.Settling.{Counts, settle}
+use Rattle.rules.specs.Settling.{settle}
 use Rattle.rules.specs.Declaring.{declare}
 use Rattle.rules.specs.Adding.{add}
-use Rattle.rules.specs.Checking.{Verdict, check}
+use Rattle.rules.specs.Checking.{check}
 use Rattle.rules.specs.Forcing.{force}
-use Rattle.rules.specs.Showing.{Shown, show}
-use Rattle.rules.specs.Classifying.{Class, classify}
+use Rattle.rules.specs.Showing.{show}
+use Rattle.rules.specs.Classifying.{classify}
 use Rattle.rules.specs.Script.Bytes.{Bytes}
 use Rattle.rules.specs.Script.Running.{script}
 use Rattle.rules.specs.Condition.{Mem, Rising}

@@ -1,19 +1,18 @@
 -- Settling never makes more constraints live, so where a number was free before it, the lowest free one after it is below 128.
 use mathlib.Core.Path.{◌≡◌, refl, ap}
-use mathlib.Core.Bool.{Bool, true, false, cond, not, ◌&&◌}
+use mathlib.Core.Bool.{Bool, true, false, cond}
 use mathlib.Core.List.{List, [], ◌∷◌}
 use mathlib.Core.Option.{Option, none, some}
-use Prim.Native.Nat.{ℕ, zero, suc, ◌≤◌, ◌<◌}
+use Prim.Native.Nat.{ℕ, suc, ◌≤◌, ◌<◌}
 use native.Mathlib.Omega.{arith}
-use lib.Dec.{eqb}
-use lib.ListN.{set, length}
+use lib.ListN.{length}
 use Rattle.rules.specs.Samples.{Sample, covers}
 use Rattle.rules.specs.Sets.{covered_by, keep}
 use Rattle.rules.specs.Contents.{Sign, positive, negative, Sides, side, with_side, wait_as, Constraint, Slot, free, modified_slot, Held, is_live, count_if, live_count}
-use Rattle.rules.specs.Redundancy.{needless_slot, drop_others, any_inside, test_as, lives_at, test, tests}
+use Rattle.rules.specs.Redundancy.{lives_at}
 use Rattle.rules.specs.Settling.{Fate, untouched, dropped, waits, contradicts, stays, slot_fate, Swept, broken, swept, onto, noting, turn, sweep, tested}
-use Rattle.rules.specs.Settling.{Drawn, idle, clash, drawn, drawn_kept, taken_if, taken, with_waiting, draw_from, draw}
-use Rattle.rules.specs.Settling.{Settled, contradicted, settled, counting, follow, run, size, settle_held}
+use Rattle.rules.specs.Settling.{drawn_kept, taken_if, taken, with_waiting, draw_from, draw}
+use Rattle.rules.specs.Settling.{settle_held}
 use Rattle.rules.specs.Adding.{lowest_free}
 use Rattle.rules.proofs.Laws.Bools.{both}
 use Rattle.rules.proofs.Kept.Freeing.{tests_freed}

@@ -4,7 +4,7 @@ use mathlib.Core.Bool.{Bool, true, false}
 use mathlib.Core.List.{List, [], ◌∷◌, ◌++◌}
 use mathlib.Core.Option.{Option, none, some}
 use mathlib.Core.Logic.{◌↔◌, ◌⊎◌, inl, inr, ⊎_elim, ⊎_map}
-use Prim.Native.Nat.{ℕ, zero, suc, ◌≤◌}
+use Prim.Native.Nat.{ℕ, suc, ◌≤◌}
 use lib.ListN.{length}
 use Rattle.rules.specs.Samples.{Sample, covers}
 use Rattle.rules.specs.Sets.{any, without, covered_by, keep}
@@ -15,7 +15,7 @@ use Rattle.rules.specs.Redundancy.{test, tests}
 use Rattle.rules.specs.Settling.{Fate, untouched, dropped, waits, contradicts, stays, remaining, judged, right_goes, right_after, fate, slot_fate}
 use Rattle.rules.specs.Settling.{Swept, broken, swept, onto, noting, turn, sweep, tested}
 use Rattle.rules.specs.Settling.{Drawn, idle, clash, drawn, drawn_kept, taken_if, taken, with_waiting, draw_from, draw}
-use Rattle.rules.specs.Settling.{Settled, contradicted, settled, counting, follow, run, size, settle_held}
+use Rattle.rules.specs.Settling.{Settled, settle_held}
 use Rattle.rules.specs.Forcing.{names, sign_of, cleared, losses}
 use Rattle.rules.specs.Condition.{Mem, Rising}
 use Rattle.rules.proofs.Laws.Bools.{by_test}

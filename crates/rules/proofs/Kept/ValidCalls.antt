@@ -1,6 +1,6 @@
 -- A new store meets the condition, and every call keeps it, refusals and 9 included.
 use mathlib.Core.Path.{◌≡◌, refl, sym, ◌∙◌}
-use mathlib.Core.Bool.{Bool, ◌&&◌}
+use mathlib.Core.Bool.{Bool}
 use mathlib.Core.List.{List, [], ◌∷◌, ◌++◌}
 use mathlib.Core.Option.{Option, none, some}
 use mathlib.Core.Logic.{◌⊎◌, ⊎_map}

@@ -3,7 +3,7 @@ use mathlib.Core.Path.{◌≡◌, refl, ◌∙◌}
 use mathlib.Core.Bool.{Bool, true, false}
 use mathlib.Core.List.{List, [], ◌∷◌}
 use mathlib.Core.Option.{Option, none, some}
-use Prim.Native.Nat.{ℕ, zero, suc}
+use Prim.Native.Nat.{ℕ}
 use lib.ListN.{length}
 use Rattle.rules.specs.Sizes.{max_constraints}
 use Rattle.rules.specs.Values.{Sort}
@@ -11,8 +11,8 @@ use Rattle.rules.specs.Samples.{Sample, valid_sample, covers}
 use Rattle.rules.specs.Sets.{without, covered_by, keep}
 use Rattle.rules.specs.Contents.{Sign, positive, negative, Sides, side, with_side, Constraint, Slot, Held}
 use Rattle.rules.specs.Redundancy.{test, tests}
-use Rattle.rules.specs.Settling.{Swept, broken, swept, sweep, tested, Drawn, idle, clash, drawn, drawn_kept, taken_if, taken, with_waiting, draw_from, draw}
-use Rattle.rules.specs.Settling.{Settled, contradicted, settled, counting, follow, run, size, settle_held}
+use Rattle.rules.specs.Settling.{Swept, broken, swept, sweep, tested, Drawn, drawn_kept, taken_if, taken, with_waiting, draw_from, draw}
+use Rattle.rules.specs.Settling.{Settled, settle_held}
 use Rattle.rules.specs.Forcing.{names, sign_of, cleared, losses}
 use Rattle.rules.specs.Satisfying.{AllLive}
 use Rattle.rules.specs.Condition.{ValidSet, ValidConstraint, MarkedLive, Irredundant, ValidHeld}

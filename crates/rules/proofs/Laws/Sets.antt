@@ -1,5 +1,5 @@
 -- Sets as strictly rising lists: the same members make the same list, and what each operation does to members, to rising lists and to what holds of all members.
-use mathlib.Core.Path.{◌≡◌, refl, sym, ap, ◌∙◌}
+use mathlib.Core.Path.{◌≡◌, refl, sym, ap, subst, ◌∙◌}
 use mathlib.Core.Bool.{Bool, true, false, cond, not}
 use mathlib.Core.List.{List, [], ◌∷◌, ◌++◌}
 use mathlib.Core.Logic.Iff
@@ -273,7 +273,7 @@ rising_length (x ∷ l) (y ∷ m) p q f =
     -- y comes before x, and so before all of x ∷ l.
     within : Mem x m → (z : Sample) → Mem z (x ∷ l) → Mem z m
     within k z (inl e) = rw e k
-    within k z (inr j) = ⊎_elim (λ d. both (rising_head x l p y (rw d at j)) (before-not-after y x (rising_head y m q x k))) (λ i. i) (f z (inr j))
+    within k z (inr j) = ⊎_elim (λ d. both (rising_head x l p y (subst (λ (w : Sample). Mem w l) d j)) (before-not-after y x (rising_head y m q x k))) (λ i. i) (f z (inr j))
 
     go : (x ≡ y) ⊎ Mem x m → (x ≡ y → length l ≤ length m) → (Mem x m → suc (length l) ≤ length m) → suc (length l) ≤ suc (length m)
     go (inl e) g h = omega (arith, g e)

@@ -1,24 +1,22 @@
 -- A settled store with no overlapping pair has a satisfying assignment: what its kept positives cover. So check decides.
 use mathlib.Core.Path.{◌≡◌, refl, sym, ◌∙◌}
-use mathlib.Core.Bool.{Bool, true, false, cond, ◌&&◌}
+use mathlib.Core.Bool.{true, false}
 use mathlib.Core.List.{List, [], ◌∷◌}
 use mathlib.Core.Option.{Option, none, some}
 use mathlib.Core.Logic.{◌⊎◌, inl, inr, ⊎_elim}
-use Prim.Native.Nat.{ℕ}
-use native.Mathlib.Omega.{arith}
 use lib.Dec.{eqb}
 use lib.ListN.{get_or}
 use borrow.Author.Tests.{eqb-true, eq-eqb}
-use Rattle.rules.specs.Values.{Value, Sort, integer, truth, blank, equal_value, valid_value}
+use Rattle.rules.specs.Values.{Value, Sort, integer, truth, blank, valid_value}
 use Rattle.rules.specs.Samples.{Position, Sample, valid_at, valid_positions, valid_sample, covers_at, covers_all, covers, total, overlaps_at, overlaps_all, overlaps}
 use Rattle.rules.specs.Sets.{covered_by}
 use Rattle.rules.specs.Contents.{positive, negative, side, Constraint, right_samples, samples_of, Slot, Sides, Held}
-use Rattle.rules.specs.Satisfying.{Vector, Assignment, known, vector_of, Completes, Satisfies, inside, All, IfLive, AllLive, SatisfiesHeld}
+use Rattle.rules.specs.Satisfying.{Vector, Assignment, known, Completes, Satisfies, inside, All, IfLive, AllLive, SatisfiesHeld}
 use Rattle.rules.specs.Checking.{Verdict, clear, overlap, seek_negative, seek, verdict_on}
 use Rattle.rules.specs.Condition.{Mem, NonEmpty, ValidConstraint, ValidHeld}
 use Rattle.rules.specs.Demand3.{NothingWaits}
 use Rattle.rules.proofs.Laws.Bools.{both, by_test, and_split, and_join, refuted}
-use Rattle.rules.proofs.Laws.Covering.{CoversAt, CoversAll, covers_true, covers_all_true, covers_test, equal_true, equal_refl}
+use Rattle.rules.proofs.Laws.Covering.{CoversAt, CoversAll, covers_true, covers_all_true, covers_test, equal_refl}
 use Rattle.rules.proofs.Laws.Sets.{all_mem, mem_all, any_true, any_mem, append_mem}
 use Rattle.rules.proofs.Same.Completions.{total-known, valid_positions_lem}
 use Rattle.rules.proofs.Same.LosingSamples.{Holds, holds_out}

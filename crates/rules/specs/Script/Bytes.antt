@@ -3,7 +3,7 @@ use Rattle.std.specs.Prelude.{Bool, true, false, cond, ◌&&◌, List, [], ◌�
 use Rattle.std.proofs.Math.Option.{Option, none, some}
 use Prim.Native.String as S
 use Prim.Native.String.{String}
-use Prim.Native.Char.{Char, code}
+use Prim.Native.Char.{code}
 use Rattle.rules.specs.Values.{in_i64}
 
 abbrev pub Bytes : Type 0

@@ -1,6 +1,6 @@
 -- What an answer prints: letter, code, then its numbers.
-use Rattle.std.specs.Prelude.{Bool, true, false, cond, List, [], ◌∷◌, ◌++◌, ℕ, ℤ, pos, length, get_or}
-use Rattle.std.proofs.Math.Option.{Option, none, some}
+use Rattle.std.specs.Prelude.{Bool, true, false, cond, List, [], ◌∷◌, ◌++◌, ℕ, pos, length, get_or}
+use Rattle.std.proofs.Math.Option.{none, some}
 use Prim.Native.String.{String}
 use Rattle.rules.specs.Values.{Sort, integer, truth, equal_value}
 use Rattle.rules.specs.Samples.{Position, Sample}

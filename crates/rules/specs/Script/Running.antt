@@ -1,7 +1,6 @@
 -- The whole output for a whole input.
-use Rattle.std.specs.Prelude.{Bool, cond, List, [], ◌∷◌, ◌++◌, ℕ, ℤ, ltb, length}
+use Rattle.std.specs.Prelude.{cond, List, [], ◌∷◌, ◌++◌, ℕ, ℤ, ltb, length}
 use Rattle.std.proofs.Math.Option.{Option, none, some}
-use Rattle.rules.specs.Values.{Sort}
 use Rattle.rules.specs.Contents.{Contents, new}
 use Rattle.rules.specs.Numbers.{Refusal, Answer, done, refused, Outcome}
 use Rattle.rules.specs.Rows.{declared_as, natural}

@@ -2,12 +2,8 @@
 use mathlib.Core.Path.{refl}
 use Rattle.words.specs.Sets.{word_at}
 use Rattle.words.proofs.FourWords.{by_word, no_word}
-use Rattle.words.proofs.set.Set.empty.Statement.{statement}
-use Rattle.words.proofs.set.Set.empty.Tie as tie
+use Rattle.words.proofs.set.Set.empty.Goals as goal
 
-returns : tie.Need-returns
+pub returns : goal.returns
 unfolding word_at
 returns c = no_word _ (by_word _ refl refl refl refl)
-
-pub empty-spec : {M : Type 1} → statement M
-empty-spec = tie.close (tie.spec returns)
