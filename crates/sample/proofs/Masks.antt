@@ -9,11 +9,11 @@ use lib.Dec.{eqb}
 use lib.Pow.{pow_pos, field, mod-mod-pow, mod-pow-add, ones_split, high}
 use lib.Signed.{mag, shr_z, quot_z, rem_z, mag_shr}
 use mir.Syntax.{w64}
-use mir.Val.{of_z, to_z, SFits, hbits}
+use mir.Val.{of_z, SFits, hbits}
 use mir.Facts.{to_z-of_z}
 use Rattle.rules.specs.Rows.{bit}
 use Rattle.rules.specs.Classifying.{low_bits}
-use Rattle.sample.proofs.Signed.{read_back, read_back_lem}
+use Rattle.sample.proofs.Signed.{read_back}
 
 -- A shifted value fits as the value does.
 shift_fits : (z : ℤ) (m : ℕ) → SFits w64 z → SFits w64 (shr_z z m)

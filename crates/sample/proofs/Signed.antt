@@ -21,7 +21,7 @@ abbrev pub Small : ℤ → Type 0
 Small x = mag x < 2 ^ hbits w64
 
 pub read_back_lem : (x : ℤ) → Small x → read_back x ≡ x
-read_back_lem x h = to_z-of_z (record { sfits = h })
+read_back_lem x h = to_z-of_z {w = w64} (record { sfits = h })
 
 -- A test of two values that were handed to a function.
 pub read_back_both : {B : Type 0} (f : ℤ → ℤ → B) (a b : ℤ) (r : B) → SFits w64 a → SFits w64 b → r ≡ f (read_back a) (read_back b) → r ≡ f a b

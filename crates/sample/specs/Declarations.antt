@@ -1,5 +1,5 @@
 -- The declarations that the code's two arrays stand for.
-use Rattle.std.specs.Prelude.{◌≡◌, Bool, true, false, List, [], ◌∷◌, ℕ, zero, suc, ◌≤◌, ◌<◌, length, get_or}
+use Rattle.std.specs.Prelude.{◌≡◌, Bool, true, false, List, [], ◌∷◌, ℕ, zero, suc, ◌≤◌, length, get_or}
 use Rattle.rules.specs.Sizes.{max_predicates, max_positions}
 use Rattle.rules.specs.Values.{Sort, integer, truth}
 use Rattle.rules.specs.Rows.{bit}

@@ -1,5 +1,5 @@
 -- The sample that a row of the code shows, and when a row is in order.
-use Rattle.std.specs.Prelude.{◌≡◌, Bool, false, List, [], ◌∷◌, ℕ, ◌^◌, ◌≤◌, ◌<◌, ℤ, pos, length, get_or}
+use Rattle.std.specs.Prelude.{◌≡◌, false, ℕ, ◌^◌, ◌≤◌, ◌<◌, length, get_or}
 use Rattle.rules.specs.Values.{blank}
 use Rattle.rules.specs.Samples.{Sample}
 use Rattle.rules.specs.Rows.{bit, positions_from}

@@ -1,5 +1,5 @@
 -- What the test of a row answers, by the rules; and a row in a lent list.
-use Rattle.std.specs.Prelude.{◌≡◌, Bool, true, false, List, [], ◌∷◌, ◌++◌, ℕ, ◌+◌, ◌≤◌, ℤ, pos, length, get_or, take, drop}
+use Rattle.std.specs.Prelude.{◌≡◌, List, ◌∷◌, ◌++◌, ℕ, ◌+◌, ℤ, pos, length, take, drop}
 use Rattle.std.proofs.Math.Option.{Option, none, some}
 use Rattle.rules.specs.Sizes.{row_size, shown_size}
 use Rattle.rules.specs.Numbers.{Refusal, undeclared, bad_mask, bad_value}
