@@ -1,7 +1,7 @@
 -- What the pool's functions answer.
-use Rattle.std.specs.Prelude.{◌≡◌, Bool, true, false, cond, not, ◌&&◌, List, [], ◌∷◌, ◌++◌, ℕ, suc, ◌-◌, ◌≤◌, ◌<◌, length, get_or, take, drop}
+use Rattle.std.specs.Prelude.{◌≡◌, Bool, true, cond, not, List, ◌∷◌, ◌++◌, ℕ, suc, ◌-◌, ◌≤◌, ◌<◌, get_or, take, drop}
 use Rattle.std.proofs.Math.Option.{Option, none, some}
-use Rattle.rules.specs.Samples.{Sample, covers, before}
+use Rattle.rules.specs.Samples.{covers, before}
 use Rattle.rules.specs.Sets.{covered_by, keep, without}
 use Rattle.rules.specs.Forcing.{names}
 use Rattle.rules.specs.Waiting.{is_new, wait}
@@ -15,8 +15,8 @@ use Rattle.pool.specs.declared.order.First.{First}
 use Rattle.pool.specs.declared.order.First.TheVariants.{At, Nothing}
 use Rattle.pool.specs.declared.order.Place.{Place}
 use Rattle.pool.specs.declared.order.Place.TheVariants.{Here, Gap}
-use Rattle.pool.specs.Picks.{pick, keep_if, first_of, Among}
-use Rattle.pool.specs.Pools.{Table, row_at, sample_at, in_use, members, PoolOk, PartialOk, Within}
+use Rattle.pool.specs.Picks.{keep_if, Among}
+use Rattle.pool.specs.Pools.{Table, sample_at, in_use, members, PoolOk, PartialOk, Within}
 
 -- Whether a sample of the set covers number s.
 abbrev pub CoveredIn : Table → ℕ → List ℕ → Set → Set → ℕ → Bool → Type 0

@@ -1,5 +1,5 @@
 -- The pool: rows in flat arrays, the order of the numbers in use, and when they are in order.
-use Rattle.std.specs.Prelude.{◌≡◌, Bool, true, false, not, List, [], ◌∷◌, ℕ, ◌+◌, ◌*◌, ◌≤◌, ◌<◌, ℤ, pos, length, get_or, take}
+use Rattle.std.specs.Prelude.{◌≡◌, true, not, List, [], ◌∷◌, ℕ, ◌+◌, ◌*◌, ◌≤◌, ◌<◌, ℤ, pos, length, get_or, take}
 use Rattle.rules.specs.Samples.{Sample, total}
 use Rattle.words.specs.Sets.{in_set}
 use Rattle.words.specs.declared.set.Set.{Set}

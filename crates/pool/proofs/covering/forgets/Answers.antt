@@ -1,0 +1,9 @@
+-- `covering::forgets` meets its contract: what is left of the set are its samples of the other predicates.
+use Rattle.pool.proofs.Named.{forgotten}
+use Rattle.pool.proofs.covering.forgets.Goals as goal
+
+pub returns : goal.returns
+returns c = λ positions t ok e.
+    let n = c in
+    let a = n in
+    forgotten positions t _ _ _ a.args.set n.naming.result c.minus.result ok (n.naming.ensures positions t ok e) c.minus.ensures
