@@ -155,7 +155,8 @@ impl Row {
     pub fn single(self, positions: usize) -> bool
         ensures { (of : ℕ → ℕ) → RowOk of self → positions ≡ of self.pred.0 → result ≡ single (shown of self) }
     {
-        1 < positions && u32::count_ones(self.mask as u32) == 1
+        let several = 1 < positions;
+        several && u32::count_ones(self.mask as u32) == 1
     }
 
     // No position is unknown.
