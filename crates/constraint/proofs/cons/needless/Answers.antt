@@ -11,8 +11,7 @@ returns-then-not-same c = rw (sym c.same.ensures ∙ c.if-not-same.true)
 pub returns : goal.returns
 unfolding needless_no numbers_of
 returns c =
-    let e = c in
-    let a = e.args in
-    rw (sym e.same.ensures ∙ e.if-not-same.false)
+    let a = c.args in
+    rw (sym c.same.ensures ∙ c.if-not-same.false)
     (inside_by_sets (numbers_of a.c).left (numbers_of a.d).left c.left_set.result c.left_set-2.result c.minus.result
     c.left_set.ensures c.left_set-2.ensures c.minus.ensures c.is_empty.result c.is_empty.ensures)

@@ -4,6 +4,4 @@ use Rattle.pool.proofs.covering.forgets.Goals as goal
 
 pub returns : goal.returns
 returns c = λ positions t ok e.
-    let n = c in
-    let a = n in
-    forgotten positions t _ _ _ a.args.set n.naming.result c.minus.result ok (n.naming.ensures positions t ok e) c.minus.ensures
+    forgotten positions t _ _ _ c.args.set c.naming.result c.minus.result ok (c.naming.ensures positions t ok e) c.minus.ensures

@@ -11,25 +11,20 @@ loop-k-init c = (omega arith, first_whole c.args.positions c.args.row.now c.args
 pub returns-then-row_covers : goal.returns-then-row_covers
 unfolding found_at
 returns-then-row_covers c =
-    let one = c in
-    let l = one in
-    let a = l.args in
-    sym (ap found_at (l.loop-k.invariant.1 ∙ first_stops a.positions a.row.now a.list.now l.loop-k.k
-    one.row_covers.result one.loop-k-test.true one.row_covers.ensures c.if-row_covers.true))
+    let a = c.args in
+    sym (ap found_at (c.loop-k.invariant.1 ∙ first_stops a.positions a.row.now a.list.now c.loop-k.k
+    c.row_covers.result c.loop-k-test.true c.row_covers.ensures c.if-row_covers.true))
 
 pub loop-k-preserved : goal.loop-k-preserved
 loop-k-preserved c =
-    let one = c in
-    let l = one in
-    let a = l.args in (
+    let a = c.args in (
       omega arith,
-      l.loop-k.invariant.1 ∙ first_goes_on a.positions a.row.now a.list.now l.loop-k.k
-          one.row_covers.result one.loop-k-test.true one.row_covers.ensures c.if-row_covers.false,
+      c.loop-k.invariant.1 ∙ first_goes_on a.positions a.row.now a.list.now c.loop-k.k
+          c.row_covers.result c.loop-k-test.true c.row_covers.ensures c.if-row_covers.false,
     )
 
 pub returns : goal.returns
 unfolding found_at
 returns c =
-    let l = c in
-    let a = l.args in
-    sym (ap found_at (l.loop-k.invariant.1 ∙ first_end a.positions a.row.now a.list.now l.loop-k.k c.loop-k-test.false))
+    let a = c.args in
+    sym (ap found_at (c.loop-k.invariant.1 ∙ first_end a.positions a.row.now a.list.now c.loop-k.k c.loop-k-test.false))

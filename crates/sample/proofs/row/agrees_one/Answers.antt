@@ -16,10 +16,10 @@ unfolding covers_at overlaps_at
 unknown Covers y = refl
 unknown Overlaps y = refl
 
-both-known : (way : Way) (x y : Value) → equal_value x y ≡ agrees_at way (some x) (some y)
+both_known : (way : Way) (x y : Value) → equal_value x y ≡ agrees_at way (some x) (some y)
 unfolding covers_at overlaps_at
-both-known Covers x y = refl
-both-known Overlaps x y = refl
+both_known Covers x y = refl
+both_known Overlaps x y = refl
 
 one_known : (way as_told : Way) (ka kb : Bool) (a b : Value) → way ≡ as_told → ka ≡ true → kb ≡ false
     → agrees_at as_told (some a) none ≡ agrees_at way (position ka a) (position kb b)
@@ -41,7 +41,6 @@ returns-in-Overlaps c = let a = c.args in one_known a.way Overlaps a.ka a.kb a.a
 pub returns : goal.returns
 unfolding position
 returns c =
-    let s = c in
-    let a = s.args in
+    let a = c.args in
     rw (c.if-not-ka.false, c.if-not-kb.false)
-    (read_back_both equal_value _ _ _ s.ranges.a s.ranges.b c.equal.ensures ∙ both-known a.way a.a a.b)
+    (read_back_both equal_value _ _ _ c.ranges.a c.ranges.b c.equal.ensures ∙ both_known a.way a.a a.b)

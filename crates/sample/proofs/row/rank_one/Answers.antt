@@ -21,8 +21,7 @@ returns-then-not-kb-2 c = let a = c.args in rw (c.if-not-ka.false, c.if-not-kb-2
 pub returns-then-lower : goal.returns-then-lower
 unfolding rank_at before_at position
 returns-then-lower c =
-    let s = c in
-    let l = read_back_both lower_value s.args.a s.args.b _ s.ranges.a s.ranges.b c.lower.ensures in
+    let l = read_back_both lower_value c.args.a c.args.b _ c.ranges.a c.ranges.b c.lower.ensures in
     rw (c.if-not-ka.false, c.if-not-kb-2.false, ← l, c.if-lower.true)
 
 pub returns-then-lower-2 : goal.returns-then-lower-2

@@ -13,22 +13,19 @@ loop-i-init c = (omega arith, refl)
 
 pub returns-then-has : goal.returns-then-has
 returns-then-has c =
-    let l = c in
-    let a = l.args in
+    let a = c.args in
     let found = sym (rw c.at.ensures.0 at c.has.ensures) ∙ c.if-has.true in
-    sym (l.loop-i.invariant.1 ∙ any_next a.self.left l.loop-i.i a.self.n _ (omega arith) (omega arith) (in_set a.set) true found)
+    sym (c.loop-i.invariant.1 ∙ any_next a.self.left c.loop-i.i a.self.n _ (omega arith) (omega arith) (in_set a.set) true found)
 
 pub loop-i-preserved : goal.loop-i-preserved
 loop-i-preserved c =
-    let l = c in
-    let a = l.args in
+    let a = c.args in
     let passed = sym (rw c.at.ensures.0 at c.has.ensures) ∙ c.if-has.false in
-    (omega arith, l.loop-i.invariant.1 ∙ any_next a.self.left l.loop-i.i a.self.n _ (omega arith) (omega arith) (in_set a.set) false passed)
+    (omega arith, c.loop-i.invariant.1 ∙ any_next a.self.left c.loop-i.i a.self.n _ (omega arith) (omega arith) (in_set a.set) false passed)
 
 pub returns : goal.returns
 unfolding any_no
 returns c =
-    let l = c in
-    let a = l.args in
-    let last : l.loop-i.i ≡ a.self.n = omega arith in
-    sym (rw (last, from_last a.self.n a.self.left) at l.loop-i.invariant.1)
+    let a = c.args in
+    let last : c.loop-i.i ≡ a.self.n = omega arith in
+    sym (rw (last, from_last a.self.n a.self.left) at c.loop-i.invariant.1)

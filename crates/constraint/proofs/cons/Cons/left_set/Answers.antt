@@ -11,16 +11,14 @@ loop-i-init c = (omega arith, none_gathered c.empty-out.result _ c.empty-out.ens
 
 pub loop-i-preserved : goal.loop-i-preserved
 loop-i-preserved c =
-    let l = c in
-    let a = l.args in (
+    let a = c.args in (
       omega arith,
-      gather_next a.self.left l.loop-i.i a.self.n _ (omega arith) (omega arith) l.loop-i.out c.with-out.result _ _
-          c.at.ensures c.with-out.ensures l.loop-i.invariant.1,
+      gather_next a.self.left c.loop-i.i a.self.n _ (omega arith) (omega arith) c.loop-i.out c.with-out.result _ _
+          c.at.ensures c.with-out.ensures c.loop-i.invariant.1,
     )
 
 pub returns : goal.returns
 returns c =
-    let l = c in
-    let a = l.args in
-    let last : l.loop-i.i ≡ a.self.n = omega arith in
-    all_gathered l.loop-i.out a.self.n a.self.left _ (rw last at l.loop-i.invariant.1)
+    let a = c.args in
+    let last : c.loop-i.i ≡ a.self.n = omega arith in
+    all_gathered c.loop-i.out a.self.n a.self.left _ (rw last at c.loop-i.invariant.1)
