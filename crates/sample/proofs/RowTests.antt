@@ -11,7 +11,7 @@ use lib.Dec.{ltb, leb}
 use lib.ListN.{length, get_or, drop}
 use lib.Pow.{pow_mono}
 use lib.Seq.{get_or-take, get_or-drop}
-use lib.Signed.{le_z, non_neg}
+use lib.Signed.{le_z, lt_z, non_neg}
 use mir.Syntax.{w64}
 use mir.Val.{to_z}
 use borrow.Author.Tests.{ltb-true, lt-ltb, le-ltb, leb-true, leb-false}
@@ -24,7 +24,7 @@ use Rattle.sample.specs.Declarations.{sorts_from, sorts_of, declared_from, decla
 use Rattle.sample.specs.Tests.{row_in}
 use Rattle.sample.proofs.Tabled.{past_end, tabled_length, tabled_at}
 use Rattle.sample.proofs.Signed.{Small, read_back}
-use Rattle.sample.proofs.Naturals.{remainder, is-natural, remainder_is, at_most}
+use Rattle.sample.proofs.Naturals.{found_sign, remainder, is-natural, remainder_is, at_most}
 use Rattle.sample.proofs.Fitting.{sorts_length}
 
 pub predicate_at : (rows : List ℤ) (at : ℕ) → (row_in rows at).predicate ≡ get_or rows at (pos 0)
@@ -158,3 +158,42 @@ module _ (d : Declared) (q : ℕ) (rows : List ℤ) (at : ℕ) (declared : decla
       go true true e = (refl, refl)
       go true false e = absurd (let z : ◌≡◌ {A = ℕ} 0 1 = cc in omega arith)
       go false b e = absurd (let z : ◌≡◌ {A = ℕ} 0 1 = cc in omega arith)
+
+-- The two numbers that the code tests before the values.
+abbrev pub predicate_in : List ℤ → ℕ → ℤ
+predicate_in rows at = get_or rows at (pos 0)
+
+abbrev pub mask_in : List ℤ → ℕ → ℤ
+mask_in rows at = get_or rows (at + 1) (pos 0)
+
+-- The code's tests of the row at `at`, in the order in which it runs them: the predicate is declared, then the mask, then the values.
+module _ (d : Declared) (ok : DeclaredOk d) (rows : List ℤ) (at : ℕ) (held : Small (predicate_in rows at))
+    (not_negative : lt_z (read_back (predicate_in rows at)) (pos 0) ≡ false) (below : le_z (to_z w64 d.count) (read_back (predicate_in rows at)) ≡ false) where
+  -- Where the declaration stands, by the code's remainder.
+  abbrev place : ℕ
+  place = remainder 16 (predicate_in rows at)
+
+  known : declared_as (predicate_in rows at) (declared_of d) ≡ some (sorts_of d place)
+  known = found_declared d ok (predicate_in rows at) held (found_sign (predicate_in rows at) false held not_negative) below
+
+  module _ (held_mask : Small (mask_in rows at)) where
+    pub told_negative_mask : lt_z (read_back (mask_in rows at)) (pos 0) ≡ true → some bad_mask ≡ row_refusal (declared_of d) (row_in rows at)
+    told_negative_mask h = refused_mask d place rows at known (mask_negative _ (mask_in rows at) (found_sign (mask_in rows at) true held_mask h))
+
+    module _ (natural_mask : lt_z (read_back (mask_in rows at)) (pos 0) ≡ false) where
+      natural_m : non_neg (mask_in rows at) ≡ true
+      natural_m = found_sign (mask_in rows at) false held_mask natural_mask
+
+      told_mask : (b : Bool) → le_z (to_z w64 (1 * 2 ^ get_or d.positions place 0 % 2 ^ 64)) (read_back (mask_in rows at)) ≡ b
+          → mask_fits (get_or d.positions place 0) (mask_in rows at) ≡ not b
+      told_mask = found_mask (get_or d.positions place 0) (mask_in rows at) (ok.positions place) held_mask natural_m
+
+      pub told_large_mask : le_z (to_z w64 (1 * 2 ^ get_or d.positions place 0 % 2 ^ 64)) (read_back (mask_in rows at)) ≡ true
+          → some bad_mask ≡ row_refusal (declared_of d) (row_in rows at)
+      told_large_mask h = refused_mask d place rows at known (told_mask true h)
+
+      pub told_values : (fit : Bool) → le_z (to_z w64 (1 * 2 ^ get_or d.positions place 0 % 2 ^ 64)) (read_back (mask_in rows at)) ≡ false
+          → ((n : ℕ) → n ≤ 6 → remainder 64 (mask_in rows at) < 2 ^ n
+          → fit ≡ values_fit (sorts_from (get_or d.truths place 0) n 0) (remainder 64 (mask_in rows at)) (row_in rows at).values 6 0)
+          → when bad_value (not fit) ≡ row_refusal (declared_of d) (row_in rows at)
+      told_values fit h = refused_values d place rows at known fit (ok.positions place) held_mask natural_m (told_mask false h)
