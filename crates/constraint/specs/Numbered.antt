@@ -1,10 +1,9 @@
 -- A constraint of the code as sample numbers, and the rules of a loss and of redundancy on numbers.
-use Rattle.std.specs.Prelude.{◌≡◌, Bool, true, false, cond, ◌&&◌, ◌||◌, List, [], ◌∷◌, ℕ, ◌≤◌, eqb, length, take}
+use Rattle.std.specs.Prelude.{Option as CodeOption, None, Some, Bool, true, false, cond, ◌&&◌, ◌||◌, List, [], ◌∷◌, ℕ, eqb}
 use Rattle.std.proofs.Math.Option.{Option, none, some}
 use Rattle.sample.specs.declared.numbers.SampleNo.{SampleNo}
 use Rattle.sample.specs.declared.numbers.Sign.{Sign}
 use Rattle.sample.specs.declared.numbers.Sign.TheVariants.{Positive, Negative}
-use Rattle.constraint.specs.declared.right.Right.{Right}
 use Rattle.constraint.specs.declared.cons.Cons.{Cons}
 use Rattle.constraint.specs.declared.loss.Outcome.{Outcome}
 use Rattle.constraint.specs.declared.loss.Outcome.TheVariants.{Untouched, Stays, Dropped, Waits, Contradiction}
@@ -17,17 +16,13 @@ unfoldable pub plain : List SampleNo → List ℕ
 plain [] = []
 plain (s ∷ l) = s.0 ∷ plain l
 
-unfoldable pub right_no : Right → Option ℕ
-right_no r = cond r.there (some r.no.0) none
+unfoldable pub right_no : CodeOption SampleNo → Option ℕ
+right_no None = none
+right_no (Some q) = some q.0
 
 unfoldable pub numbers_of : Cons → Numbered
 unfolding plain right_no
-numbers_of c = record { left = plain (take c.n c.left); right = right_no c.right }
-
--- At most sixteen left samples, in an array of sixteen.
-pub record ConsOk (c : Cons) : Type 0 where
-  pub few : c.n ≤ 16
-  pub room : length c.left ≡ 16
+numbers_of c = record { left = plain c.left.items; right = right_no c.right }
 
 unfoldable pub is_in : ℕ → List ℕ → Bool
 is_in k [] = false
@@ -77,13 +72,13 @@ unfolding judged_no any_no right_is remaining_no outside right_outside
 fate_no lost g c = judged_no g (any_no lost c.left) (right_is lost c.right) (remaining_no (outside lost c.left) (right_outside lost c.right))
 
 -- What an answer of `loses` says.
-unfoldable pub says_no : Outcome → Cons → FateNo
+unfoldable pub says_no : Outcome → FateNo
 unfolding numbers_of
-says_no Untouched c = untouched_no
-says_no Stays c = stays_no (numbers_of c)
-says_no Dropped c = dropped_no
-says_no (Waits g s) c = waits_no g s.0
-says_no Contradiction c = contradicts_no
+says_no (Untouched c) = untouched_no
+says_no (Stays c) = stays_no (numbers_of c)
+says_no Dropped = dropped_no
+says_no (Waits g s) = waits_no g s.0
+says_no Contradiction = contradicts_no
 
 -- d is needless beside c, on numbers.
 unfoldable pub same_right_no : Option ℕ → Option ℕ → Bool

@@ -1,156 +1,98 @@
 // A constraint by value: what it names, what it loses, and whether another is needless beside it.
-ghost use Rattle.std.specs.Prelude.{◌≡◌, ◌||◌, ℕ, ◌≤◌, eqb};
+ghost use Rattle.std.specs.Prelude.{◌≡◌, [], ◌||◌, ℕ, eqb};
+ghost use Rattle.std.proofs.Math.Option.{none};
 ghost use Rattle.words.specs.Sets.{in_set, Holds};
-ghost use Rattle.constraint.specs.Numbered.{numbers_of, ConsOk, is_in, any_no, outside, right_is, right_outside, fate_no, says_no, needless_no, names_no};
-ghost use Rattle.constraint.specs.declared.loss.Outcome.TheVariants.{Untouched};
+ghost use Rattle.constraint.specs.declared.cons.Cons.{Cons};
+ghost use Rattle.constraint.specs.Numbered.{numbers_of, is_in, any_no, outside, right_is, right_outside, fate_no, says_no, needless_no, names_no};
 
 use crate::loss::{Loss, Outcome, loss_of, remaining};
-use crate::right::Right;
-use sample::{SampleNo, Sign, wide};
+use arrayvec::ArrayVec;
+use sample::{SampleNo, Sign};
 use words::Set;
 
-// The left samples are the first n of `left`, each once.
-#[repr(C)]
-#[derive(Clone, Copy)]
+// At most sixteen left samples, and the right one if there is one. A list of fixed capacity takes no heap; its copy would be a call that can fail.
+#[derive(PartialEq, Eq, Debug, Drop)]
 pub struct Cons {
-    pub n: u8,
-    pub right: Right,
-    pub left: [SampleNo; 16],
-}
-
-#[derive(Clone, Copy)]
-pub struct Changed {
-    pub cons: Cons,
-    pub out: Outcome,
+    pub left: ArrayVec<SampleNo, 16>,
+    pub right: Option<SampleNo>,
 }
 
 impl Cons {
     pub fn free() -> Cons
-        ensures { ConsOk result }
+        ensures { ((numbers_of result).left ≡ []) × ((numbers_of result).right ≡ none) }
     {
         Cons {
-            n: 0,
-            right: Right::none(),
-            left: [SampleNo(0); 16],
+            left: ArrayVec::new(),
+            right: None,
         }
     }
 
     // Whether a left sample is in the set.
-    pub fn left_in(self, set: Set) -> bool
-        requires { ConsOk self }
-        ensures { result ≡ any_no (in_set set) (numbers_of self).left }
+    pub fn left_in(&self, set: Set) -> bool
+        ensures { result ≡ any_no (in_set set) (numbers_of self.now).left }
     {
-        let n = wide(self.n);
-        let mut i: usize = 0;
-        while i < n {
-            let s = self.left[i];
-            if set.has(s.at()) {
-                return true;
-            }
-            i = i + 1;
-        }
-        false
+        self.left.iter().any(|s| set.has(s.0))
+    }
+
+    // Whether the right sample is in the set.
+    fn right_in(&self, set: Set) -> bool
+        ensures { result ≡ right_is (in_set set) (numbers_of self.now).right }
+    {
+        self.right.is_some_and(|q| set.has(q.0))
     }
 
     // Whether it names a sample of the set.
-    pub fn names(self, set: Set) -> bool
-        requires { ConsOk self }
-        ensures { result ≡ names_no (in_set set) (numbers_of self) }
+    #[tactic(auto, unfolding(crate::specs::Numbered::names_no))]
+    pub fn names(&self, set: Set) -> bool
+        ensures { result ≡ names_no (in_set set) (numbers_of self.now) }
     {
-        let r = self.right;
-        if r.lies_in(set) {
-            return true;
-        }
-        self.left_in(set)
+        self.right_in(set) || self.left_in(set)
     }
 
     // The left samples as a set.
-    pub fn left_set(self) -> Set
-        requires { ConsOk self }
-        ensures { (k : ℕ) → in_set result k ≡ is_in k (numbers_of self).left }
+    pub fn left_set(&self) -> Set
+        ensures { (k : ℕ) → in_set result k ≡ is_in k (numbers_of self.now).left }
     {
-        let mut out = Set::empty();
-        let n = wide(self.n);
-        let mut i: usize = 0;
-        while i < n {
-            let s = self.left[i];
-            out = out.with(s.at());
-            i = i + 1;
-        }
-        out
+        self.left.iter().fold(Set::empty(), |out, s| out.with(s.0))
     }
 
     // All its samples as a set.
-    pub fn samples(self) -> Set
-        requires { ConsOk self }
-        ensures { Holds result (λ k. right_is (eqb k) (numbers_of self).right || is_in k (numbers_of self).left) }
+    #[tactic(auto, unfolding(crate::specs::Numbered::numbers_of, crate::specs::Numbered::right_no, crate::specs::Numbered::right_is))]
+    pub fn samples(&self) -> Set
+        ensures { Holds result (λ k. right_is (eqb k) (numbers_of self.now).right || is_in k (numbers_of self.now).left) }
     {
-        let l = self.left_set();
-        let r = self.right;
-        if r.there {
-            return l.with(r.no.at());
+        match self.right {
+            Some(q) => self.left_set().with(q.0),
+            None => self.left_set(),
         }
-        l
     }
 
     // Loses the samples of the set on both sides: what is left of it.
     pub fn without(mut self, set: Set) -> Cons
-        requires { ConsOk self }
-        ensures { ConsOk result × ((numbers_of result).left ≡ outside (in_set set) (numbers_of self).left) × ((numbers_of result).right ≡ right_outside (in_set set) (numbers_of self).right) × (result.n ≤ self.n) }
+        ensures { ((numbers_of result).left ≡ outside (in_set set) (numbers_of self).left) × ((numbers_of result).right ≡ right_outside (in_set set) (numbers_of self).right) }
     {
-        let n = wide(self.n);
-        let mut k: usize = 0;
-        let mut i: usize = 0;
-        while i < n {
-            let s = self.left[i];
-            if !set.has(s.at()) {
-                self.left[k] = s;
-                k = k + 1;
-            }
-            i = i + 1;
-        }
-        self.n = (k % 256) as u8;
-        let r = self.right;
-        self.right = r.outside(set);
+        self.left.retain(|s| !set.has(s.0));
+        self.right = self.right.filter(|s| !set.has(s.0));
         self
     }
 
     // Loses the samples of the set, which now have the sign g.
-    pub fn loses(self, set: Set, g: Sign) -> Changed
-        requires { ConsOk self }
-        ensures { (says_no result.out result.cons ≡ fate_no (in_set set) g (numbers_of self)) × ConsOk result.cons × (result.out ≡ Untouched → result.cons ≡ self) }
+    #[tactic(auto, unfolding(crate::specs::Numbered::says_no, crate::specs::Numbered::fate_no, crate::specs::Numbered::judged_no, crate::specs::Losses::loss_no), using(crate::proofs::Losing::remaining_touched))]
+    pub fn loses(self, set: Set, g: Sign) -> Outcome
+        ensures fate { says_no result ≡ fate_no (in_set set) g (numbers_of self) }
+        ensures untouched { (c : Cons) → result ≡ Outcome.Untouched c → c ≡ self }
     {
-        let rest = self.without(set);
-        let r = self.right;
-        let h = loss_of(rest.n < self.n, r.lies_in(set), g);
-        match h {
-            Loss::Nothing => Changed {
-                cons: self,
-                out: Outcome::Untouched,
-            },
-            Loss::Drops => Changed {
-                cons: Cons::free(),
-                out: Outcome::Dropped,
-            },
-            Loss::Decides => {
-                let first = rest.left[0];
-                let right = rest.right;
-                let o = remaining(wide(rest.n), first, right);
-                Changed { cons: rest, out: o }
-            }
+        match loss_of(self.left_in(set), self.right_in(set), g) {
+            Loss::Nothing => Outcome::Untouched(self),
+            Loss::Drops => Outcome::Dropped,
+            Loss::Decides => remaining(self.without(set)),
         }
     }
 }
 
 // Whether d is needless beside c: the same right side, and d's left contains c's.
-pub fn needless(c: Cons, d: Cons) -> bool
-    requires { ConsOk c × ConsOk d }
-    ensures { result ≡ needless_no (numbers_of c) (numbers_of d) }
+pub fn needless(c: &Cons, d: &Cons) -> bool
+    ensures { result ≡ needless_no (numbers_of c.now) (numbers_of d.now) }
 {
-    let r = c.right;
-    let q = d.right;
-    if !r.same(q) {
-        return false;
-    }
-    c.left_set().minus(d.left_set()).is_empty()
+    c.right == d.right && c.left_set().minus(d.left_set()).is_empty()
 }

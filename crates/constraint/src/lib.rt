@@ -3,8 +3,6 @@
 
 mod cons;
 mod loss;
-mod right;
 
-pub use cons::{Changed, Cons, needless};
+pub use cons::{Cons, needless};
 pub use loss::Outcome;
-pub use right::Right;

@@ -1,66 +1,50 @@
 // What a loss of samples does to a constraint, by the sides that it is on and by what is left.
 ghost use Rattle.std.specs.Prelude.{◌≡◌};
-ghost use Rattle.constraint.specs.Numbered.{right_no};
-ghost use Rattle.constraint.specs.Losses.{loss_no, remains_no};
+ghost use Rattle.constraint.specs.Numbered.{numbers_of, remaining_no, says_no};
+ghost use Rattle.constraint.specs.Losses.{loss_no};
 
-use crate::right::Right;
+use crate::cons::Cons;
 use sample::{SampleNo, Sign};
 
 // What becomes of a constraint that loses samples.
-#[derive(Clone, Copy)]
+#[derive(PartialEq, Eq, Debug, Drop)]
 pub enum Outcome {
-    Untouched,
-    Stays,
+    Untouched(Cons),
+    Stays(Cons),
     Dropped,
     Waits(Sign, SampleNo),
     Contradiction,
 }
 
 // By the sides that a loss is on: it changes nothing, it drops the constraint, or what is left decides.
-#[derive(Clone, Copy)]
+// The three cases that document 01 tells apart before it looks at what is left (`loss_no`).
+#[derive(Clone, Copy, PartialEq, Eq, Debug)]
 pub enum Loss {
     Nothing,
     Drops,
     Decides,
 }
 
+#[tactic(auto, unfolding(crate::specs::Losses::loss_no))]
 pub fn loss_of(left: bool, right: bool, g: Sign) -> Loss
     ensures { result ≡ loss_no left right g }
 {
-    if !left {
-        if !right {
-            return Loss::Nothing;
-        }
-        return match g {
-            Sign::Positive => Loss::Drops,
-            Sign::Negative => Loss::Decides,
-        };
-    }
-    if right {
-        return Loss::Drops;
-    }
-    match g {
-        Sign::Positive => Loss::Decides,
-        Sign::Negative => Loss::Drops,
+    match (left, right, g) {
+        (false, false, _) => Loss::Nothing,
+        (true, false, Sign::Positive) | (false, true, Sign::Negative) => Loss::Decides,
+        _ => Loss::Drops,
     }
 }
 
-// What a left of n samples, the first one given, and a right amount to.
-pub fn remaining(n: usize, first: SampleNo, right: Right) -> Outcome
-    ensures { result ≡ remains_no n first.0 (right_no right) }
+// What becomes of a constraint that has lost samples, by what is left.
+#[tactic(auto, unfolding(crate::specs::Numbered::numbers_of, crate::specs::Numbered::remaining_no, crate::specs::Numbered::says_no, crate::specs::Numbered::plain, crate::specs::Numbered::right_no), using(crate::proofs::Losing::several_remain))]
+pub fn remaining(rest: Cons) -> Outcome
+    ensures { says_no result ≡ remaining_no (numbers_of rest).left (numbers_of rest).right }
 {
-    if right.there {
-        if n == 0 {
-            let q = right.no;
-            return Outcome::Waits(Sign::Positive, q);
-        }
-        return Outcome::Stays;
+    match (rest.left.as_slice(), rest.right) {
+        ([], None) => Outcome::Contradiction,
+        ([], Some(q)) => Outcome::Waits(Sign::Positive, q),
+        ([s], None) => Outcome::Waits(Sign::Negative, *s),
+        _ => Outcome::Stays(rest),
     }
-    if n == 0 {
-        return Outcome::Contradiction;
-    }
-    if n == 1 {
-        return Outcome::Waits(Sign::Negative, first);
-    }
-    Outcome::Stays
 }

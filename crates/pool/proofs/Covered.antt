@@ -1,14 +1,19 @@
 -- Covering by number: what a total sample covers, whether a member covers s, which numbers s covers, and a sample that waits or is drawn.
-use mathlib.Core.Path.{◌≡◌, refl, sym, ap, ◌∙◌}
+use mathlib.Core.Path.{◌≡◌, refl, sym, subst, ◌∙◌}
 use mathlib.Core.Bool.{Bool, true, false, not, ◌&&◌, ◌||◌}
 use mathlib.Core.List.{List, [], ◌∷◌}
 use mathlib.Core.Logic.{◌⊎◌, inl, inr}
 use mathlib.Core.Option.{none, some}
-use Prim.Native.Nat.{ℕ, ◌+◌, ◌≤◌, ◌<◌}
+use Prim.Native.Nat.{ℕ, ◌≤◌, ◌<◌}
 use native.Mathlib.Omega.{arith}
-use lib.Dec.{eqb, ltb}
+use lib.Dec.{eqb}
 use lib.ListN.{length, get_or}
-use borrow.Author.Tests.{eqb-true, eq-eqb, ltb-true, ltb-false}
+use borrow.Author.Tests.{eqb-true, eq-eqb}
+use Rattle.std.specs.Prelude.{Option, None, Some, option_map}
+use Rattle.pool.specs.declared.covering.Kept.{Kept}
+use Rattle.std.specs.Bool.{MatchBool}
+use Rattle.std.proofs.lemmas.List.{get_or-take, length-take}
+use Rattle.std.specs.List.{HoldsAt, AllWithin}
 use Rattle.rules.specs.Samples.{Position, Sample, covers, known_count, total}
 use Rattle.rules.specs.Sets.{covered_by, keep}
 use Rattle.rules.specs.Waiting.{is_new, wait}
@@ -19,7 +24,7 @@ use Rattle.words.specs.declared.set.Set.{Set}
 use Rattle.pool.specs.Pools.{Table, sample_at, in_use, members, PoolOk, PartialOk, Within}
 use Rattle.pool.specs.Answers.{Below, Waits, Keeps}
 use Rattle.pool.proofs.PickLaws.{among_place, same_number, pick-keep, pick_covered, pick_uncovered}
-use Rattle.pool.proofs.Gathered.{Used, low}
+use Rattle.pool.proofs.Gathered.{Used, used, low}
 
 -- A total sample covers itself alone.
 known_few : (xs : List Position) → known_count xs ≤ length xs
@@ -51,23 +56,6 @@ covers_no positions t a b = covers (sample_at positions t a) (sample_at position
 abbrev pub covered_no : (ℕ → ℕ) → Table → ℕ → List ℕ → Set → ℕ → Bool
 covered_no positions t n order set s = covered_by (members positions t n order set) (sample_at positions t s)
 
--- No number among the first i of the order that is asked covers s.
-abbrev pub NoneYet : (ℕ → ℕ) → Table → List ℕ → Set → ℕ → ℕ → Type 0
-NoneYet positions t order asked s i =
-    (j : ℕ) → j < i → in_set asked (get_or order j 0) ≡ true → covers_no positions t (get_or order j 0) s ≡ false
-
-pub none_next : (positions : ℕ → ℕ) (t : Table) (order : List ℕ) (asked : Set) (s i : ℕ) → NoneYet positions t order asked s i
-    → (in_set asked (get_or order i 0) ≡ true → covers_no positions t (get_or order i 0) s ≡ false) → NoneYet positions t order asked s (i + 1)
-none_next positions t order asked s i before here j h = go (ltb j i) refl
-  where
-    go : (b : Bool) → ltb j i ≡ b → in_set asked (get_or order j 0) ≡ true → covers_no positions t (get_or order j 0) s ≡ false
-    go true e = before j (ltb-true j i e)
-    go false e = let here_at : j ≡ i = omega (arith, ltb-false j i e) in rw here_at here
-
--- What was answered for a number, of the same number.
-pub answered : (set : Set) (j k : ℕ) (r b : Bool) → r ≡ in_set set j → j ≡ k → r ≡ b → in_set set k ≡ b
-answered set j k r b h e q = ap (in_set set) (sym e) ∙ sym h ∙ q
-
 module _ (positions : ℕ → ℕ) (t : Table) (n : ℕ) (order : List ℕ) (ok : PoolOk positions t n order) where
   -- A total sample in use covers no other number's.
   pub alone : (a b : ℕ) → Used n order a → Used n order b → total (sample_at positions t a) ≡ true → covers_no positions t a b ≡ true → a ≡ b
@@ -95,9 +83,23 @@ module _ (positions : ℕ → ℕ) (t : Table) (n : ℕ) (order : List ℕ) (ok 
           go k m h true e = refuted (covers_no positions t k s) (λ c. both h (rw (alone k s m here e c) out))
           go k m h false e = none_asked k m (met k (low positions t n order ok k m) ∙ (rw (h, parts k m, e)))
 
-      pub none_asked-covers : PartialOk positions t n order partial → in_set set s ≡ false → NoneYet positions t order asked s n → false ≡ covered_no positions t n order set s
-      none_asked-covers parts out none_yet =
-          uncovered parts out (λ k m h. let (j, l, inside, e) = among_place n k order m in rw e at (none_yet j l (rw e h)))
+      -- What `any` tells of the numbers in use, one by one.
+      pub any_told : PartialOk positions t n order partial → in_set set s ≡ false → (Yes No : ℕ → Type 0) (r : Bool)
+          → ((k : ℕ) → Used n order k → Yes k → (in_set asked k ≡ true) × (covers_no positions t k s ≡ true))
+          → ((k : ℕ) → Used n order k → No k → in_set asked k ≡ true → covers_no positions t k s ≡ false)
+          → MatchBool r ((j : ℕ) × (j < length (in_use n order)) × HoldsAt Yes (in_use n order) j) (AllWithin No (in_use n order) 0 (length (in_use n order)))
+          → r ≡ covered_no positions t n order set s
+      any_told parts out Yes No true passes fails told =
+          let (j, l, here_yes) = told in
+          let low : j < n = omega (arith, length-take n order) in
+          let k : ℕ = get_or order j 0 in
+          let m : Used n order k = used positions t n order ok j low in
+          let passed : Yes k = subst Yes (get_or-take n order j 0 low) (here_yes 0) in
+          covered_at k m (passes k m passed).0 (passes k m passed).1
+      any_told parts out Yes No false passes fails told = uncovered parts out (λ k m h.
+          let (j, low, inside, e) = among_place n k order m in
+          let refused : No (get_or (in_use n order) j 0) = told j 0 (omega arith) (omega (arith, length-take n order)) in
+          fails k m (subst No (get_or-take n order j 0 low ∙ e) refused) h)
 
       pub nothing_asked : PartialOk positions t n order partial → in_set set s ≡ false → Holds asked (λ k. false) → false ≡ covered_no positions t n order set s
       nothing_asked parts out empty = uncovered parts out (λ k m h. both h (empty k (low positions t n order ok k m)))
@@ -141,21 +143,22 @@ module _ (positions : ℕ → ℕ) (t : Table) (n : ℕ) (order : List ℕ) (ok 
         inside k h (inl d) = rw (eqb-true k s d) here
         inside k h (inr d) = within k h (and_split (in_set set k) (not (in_set below k)) (sym (lost k h) ∙ d)).0
 
-    -- A sample that a member covers changes nothing: one that waits, and one that is drawn.
-    module _ (set : Set) (within : Within n order set) (c : true ≡ covered_no positions t n order set s) where
-      pub waits_covered : Waits positions t n order set s (record { set = set; fresh = false })
-      unfolding is_new wait
-      waits_covered = record { set = rw (← c); fresh = rw (← c); within = within }
-
-      pub keeps_covered : (none_below : Set) → Keeps positions t n order set s (record { set = set; below = none_below; kept = false })
-      keeps_covered none_below = record { asked = rw (← c); set = refl; within = within; below = λ e. both e refl }
-
-    -- Another joins.
+    -- A drawn sample that no member covers joins.
     module _ (set below left out : Set) (r : ℕ) (within : Within n order set) (c : false ≡ covered_no positions t n order set s) (under : Below positions t n order s below)
         (lost : Holds left (λ k. in_set set k && not (in_set below k))) (e : r ≡ s) (joined : Holds out (λ k. eqb k r || in_set left k)) where
-      pub waits_new : Waits positions t n order set s (record { set = out; fresh = true })
-      unfolding is_new wait
-      waits_new = let j = joins set below left out r within under lost e joined in record { set = rw (← c) j.0; fresh = rw (← c); within = j.1 }
+      pub keeps_new : Keeps positions t n order set s (Some (record { set = out; below = below }))
+      keeps_new =
+          let j = joins set below left out r within under lost e joined in
+          record {
+            asked = rw (← c);
+            set = j.0;
+            within = j.1;
+            below = λ k h. let same : below ≡ k.below = cc in subst (Below positions t n order s) same under;
+          }
 
-      pub keeps_new : Keeps positions t n order set s (record { set = out; below = below; kept = true })
-      keeps_new = let j = joins set below left out r within under lost e joined in record { asked = rw (← c); set = j.0; within = j.1; below = λ h. under }
+-- A sample that waits is kept among the waiting ones by the same rule.
+pub waits-keeps : (positions : ℕ → ℕ) (t : Table) (n : ℕ) (order : List ℕ) (set : Set) (s : ℕ) (r : Option Kept) → Keeps positions t n order set s r
+    → Waits positions t n order set s (option_map (λ k. k.set) r)
+unfolding wait is_new
+waits-keeps positions t n order set s None k = record { set = rw (← k.asked); fresh = k.asked; within = k.within }
+waits-keeps positions t n order set s (Some new) k = record { set = rw (← k.asked) k.set; fresh = k.asked; within = k.within }

@@ -1,10 +1,9 @@
 -- The samples of a predicate by number, and a set without them.
-use mathlib.Core.Path.{◌≡◌, sym, ap, ◌∙◌}
-use mathlib.Core.Bool.{Bool, not, ◌&&◌}
+use mathlib.Core.Path.{◌≡◌, refl, sym, ap, ◌∙◌}
+use mathlib.Core.Bool.{not, ◌&&◌}
 use mathlib.Core.List.{List}
 use Prim.Native.Nat.{ℕ}
 use lib.Dec.{eqb}
-use lib.ListN.{get_or}
 use Rattle.rules.specs.Forcing.{names}
 use Rattle.rules.proofs.Laws.Bools.{and_split}
 use Rattle.words.specs.Sets.{in_set, Holds}
@@ -13,19 +12,13 @@ use Rattle.sample.specs.Rows.{shown}
 use Rattle.pool.specs.Pools.{Table, row_at, sample_at, in_use, PoolOk}
 use Rattle.pool.specs.Answers.{Naming, Forgets}
 use Rattle.pool.proofs.PickLaws.{pick-without}
-use Rattle.pool.proofs.Gathered.{Gathered, low}
-
--- Number k's sample is of predicate p.
-abbrev pub names_no : List ℕ → ℕ → ℕ → Bool
-names_no pred p k = eqb (get_or pred k 0) p
+use Rattle.pool.proofs.Gathered.{low}
 
 module _ (positions : ℕ → ℕ) (t : Table) (n : ℕ) (order : List ℕ) (p : ℕ) where
-  names_at : (pred : List ℕ) → t.pred ≡ pred → (k : ℕ) → names_no pred p k ≡ names p (sample_at positions t k)
-  unfolding names shown row_at
-  names_at pred e k = rw (← e)
-
-  pub named : (pred : List ℕ) (out : Set) → t.pred ≡ pred → Gathered (names_no pred p) order n out → Naming positions t n order p out
-  named pred out e found = record { named = λ k m. found.passed k m ∙ names_at pred e k; within = found.within }
+  -- The predicate of a number's row is that of its sample.
+  pub names_at : (k : ℕ) → eqb (row_at t k).pred.0 p ≡ names p (sample_at positions t k)
+  unfolding names shown
+  names_at k = refl
 
   pub forgotten : (set gone out : Set) → PoolOk positions t n order → Naming positions t n order p gone → Holds out (λ k. in_set set k && not (in_set gone k))
       → Forgets positions t n order set p out

@@ -141,8 +141,8 @@ module _ (positions : ℕ → ℕ) (t u : Table) (n : ℕ) (order : List ℕ) (r
       let b : before (shown positions r) (sample_at positions t (get_or order (g + i) 0)) ≡ true = gap.higher (g + i) (omega arith) (omega (arith, gap.few)) in
       rw (same-samples k used, here, ← e) b
 
-  pub opened_pool : RowOk positions r → length u.pred ≡ 256 → length u.mask ≡ 256 → length u.vals ≡ 1536 → PoolOk positions u (n + 1) (opened n g order)
-  opened_pool good preds masks values =
+  pub opened_pool : RowOk positions r → length u ≡ 256 → PoolOk positions u (n + 1) (opened n g order)
+  opened_pool good table =
       let no = opened_numbered n g order gap.few more (pool_numbered ok) in
       record {
         few = omega arith;
@@ -151,9 +151,7 @@ module _ (positions : ℕ → ℕ) (t u : Table) (n : ℕ) (order : List ℕ) (r
         once = no.once;
         rises = rw (opened_used n g order gap.few more) (fresh_rises (sample_at positions u) (get_or order n 0) (take g order) (upper n g order) rising below_fresh above_fresh);
         rows = λ k m. ⊎_elim (λ e. let d : row_at u k ≡ r = ap (row_at u) e ∙ here in rw d good) (λ i. rw (same_rows k i) (ok.rows k i)) ((opened_among n g order gap.few more k).0 m);
-        preds = preds;
-        masks = masks;
-        values = values;
+        table = table;
       }
     where
       rising : Rises (sample_at positions u) (take g order ++ upper n g order)
@@ -205,7 +203,5 @@ module _ (n : ℕ) (held : ℕ → Bool) (order : List ℕ) where
           once = no.once;
           rises = rw closed_used (kept_rises (sample_at positions t) held (in_use n order) ok.rises);
           rows = λ k m. ok.rows k ((closed_among k).0 m).0;
-          preds = ok.preds;
-          masks = ok.masks;
-          values = ok.values;
+          table = ok.table;
         }

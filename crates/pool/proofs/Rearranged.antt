@@ -8,6 +8,7 @@ use native.Mathlib.Omega.{arith}
 use lib.Dec.{eqb}
 use lib.ListN.{length, get_or}
 use borrow.Author.Tests.{eqb-true, eq-eqb}
+use Rattle.std.specs.List.{filter}
 use Rattle.pool.specs.Picks.{keep_if}
 
 unfoldable pub sum : (ℕ → ℕ) → List ℕ → ℕ
@@ -16,6 +17,12 @@ sum weight (k ∷ ks) = weight k + sum weight ks
 
 pub record Rearranged (l m : List ℕ) : Type 0 where
   pub sums : (weight : ℕ → ℕ) → sum weight l ≡ sum weight m
+
+-- std's filter keeps the same numbers.
+pub keep-filter : (test : ℕ → Bool) (ks : List ℕ) → keep_if test ks ≡ filter test ks
+unfolding keep_if
+keep-filter test [] = refl
+keep-filter test (k ∷ ks) = rw (keep-filter test ks)
 
 pub sum_append : (weight : ℕ → ℕ) (ks js : List ℕ) → sum weight (ks ++ js) ≡ sum weight ks + sum weight js
 unfolding sum
@@ -38,8 +45,11 @@ unfolding sum
 sum-length [] = refl
 sum-length (k ∷ ks) = omega (arith, sum-length ks)
 
+pub kept_lengths : (test : ℕ → Bool) (ks : List ℕ) → length (keep_if test ks) + length (keep_if (λ k. not (test k)) ks) ≡ length ks
+kept_lengths test ks = omega (arith, sum_parted (λ k. 1) test ks, sum-length (keep_if test ks), sum-length (keep_if (λ k. not (test k)) ks), sum-length ks)
+
 pub kept_fewer : (test : ℕ → Bool) (ks : List ℕ) → length (keep_if test ks) ≤ length ks
-kept_fewer test ks = omega (arith, sum_parted (λ k. 1) test ks, sum-length (keep_if test ks), sum-length ks)
+kept_fewer test ks = omega (arith, kept_lengths test ks)
 
 pub same_length : (l m : List ℕ) → Rearranged l m → length l ≡ length m
 same_length l m r = sym (sum-length l) ∙ r.sums (λ k. 1) ∙ sum-length m

@@ -1,5 +1,5 @@
--- The pool: rows in flat arrays, the order of the numbers in use, and when they are in order.
-use Rattle.std.specs.Prelude.{◌≡◌, true, not, List, [], ◌∷◌, ℕ, ◌+◌, ◌*◌, ◌≤◌, ◌<◌, ℤ, pos, length, get_or, take}
+-- The pool: a row for each number, the order of the numbers in use, and when they are in order.
+use Rattle.std.specs.Prelude.{◌≡◌, true, not, List, [], ℕ, ◌≤◌, ◌<◌, length, get_or, take}
 use Rattle.rules.specs.Samples.{Sample, total}
 use Rattle.words.specs.Sets.{in_set}
 use Rattle.words.specs.declared.set.Set.{Set}
@@ -7,25 +7,15 @@ use Rattle.sample.specs.declared.row.Row.{Row}
 use Rattle.sample.specs.Rows.{shown, RowOk}
 use Rattle.pool.specs.Picks.{pick, Among, Rises}
 
--- The flat arrays: predicate, mask and six values of each number.
-pub record Table : Type 0 where
-  pub pred : List ℕ
-  pub mask : List ℕ
-  pub vals : List ℤ
+-- The row of each number; past the table, one that is not in order.
+abbrev pub Table : Type 0
+Table = List Row
 
-abbrev pub table_of : List ℕ → List ℕ → List ℤ → Table
-table_of pred mask vals = record { pred = pred; mask = mask; vals = vals }
-
-abbrev pub cell : List ℤ → ℕ → ℤ
-cell vals i = get_or vals i (pos 0)
+abbrev pub no_row : Row
+no_row = record { pred = record { 0 = 0 }; mask = 0; v = [] }
 
 unfoldable pub row_at : Table → ℕ → Row
-row_at t k = let b = k * 6 in
-    record {
-      pred = record { 0 = get_or t.pred k 0 };
-      mask = get_or t.mask k 0;
-      v = cell t.vals b ∷ cell t.vals (b + 1) ∷ cell t.vals (b + 2) ∷ cell t.vals (b + 3) ∷ cell t.vals (b + 4) ∷ cell t.vals (b + 5) ∷ [];
-    }
+row_at t k = get_or t k no_row
 
 -- The sample of a number.
 abbrev pub sample_at : (ℕ → ℕ) → Table → ℕ → Sample
@@ -47,9 +37,7 @@ pub record PoolOk (positions : ℕ → ℕ) (t : Table) (n : ℕ) (order : List 
   pub once : (i j : ℕ) → i < 256 → j < 256 → get_or order i 0 ≡ get_or order j 0 → i ≡ j
   pub rises : Rises (sample_at positions t) (in_use n order)
   pub rows : (k : ℕ) → Among k (in_use n order) → RowOk positions (row_at t k)
-  pub preds : length t.pred ≡ 256
-  pub masks : length t.mask ≡ 256
-  pub values : length t.vals ≡ 1536
+  pub table : length t ≡ 256
 
 -- A bit for each number in use says whether its sample is partial.
 abbrev pub PartialOk : (ℕ → ℕ) → Table → ℕ → List ℕ → Set → Type 0

@@ -1,124 +1,97 @@
-// The order: all numbers, those in use first, rising in the order of samples, the free ones after them.
-ghost use Rattle.std.specs.Prelude.{◌≡◌, ℕ, ◌+◌, ◌≤◌, ◌<◌, length, get_or, take, drop, ◌++◌};
-ghost use Rattle.words.specs.Sets.{in_set};
-ghost use Rattle.pool.specs.Picks.{keep_if, first_of};
-ghost use Rattle.pool.specs.Pools.{table_of, in_use};
-ghost use Rattle.pool.specs.Answers.{first_no, Seeks, opened, closed};
+// The order: all sample numbers, those in use first, rising in the order of samples, the free ones after them.
+// An array with a count, laid out as C lays it out: the free numbers stand in it too, and it takes fixed memory.
+ghost use Rattle.std.specs.Prelude.{◌≤◌};
 
-use crate::rows::row_at;
-use sample::{Rank, Row, SampleNo};
+use arrayvec::ArrayVec;
+use sample::SampleNo;
 use words::Set;
 
+#[repr(C)]
 #[derive(Clone, Copy)]
-pub enum First {
-    At(SampleNo),
-    Nothing,
+pub struct Order {
+    pub count: usize,
+    pub numbers: [u8; 256],
+    ghost few: { count ≤ 256 },
 }
 
-// The least sample of a set.
-pub fn first_in<'a>(n: usize, order: &'a [u8; 256], set: Set) -> First
-    requires { n ≤ 256 }
-    ensures { length order.now ≡ 256 → first_no result ≡ first_of (in_set set) (in_use n order.now) }
-{
-    if set.is_empty() {
-        return First::Nothing;
+impl Order {
+    ghost use Rattle.std.specs.Prelude.{◌≡◌, ℕ, ◌+◌, ◌≤◌, ◌<◌, not, length, get_or, IsTrue, IsFalse};
+    ghost use Rattle.words.specs.Sets.{in_set};
+    ghost use Rattle.sample.specs.Options.{to_rules};
+    ghost use Rattle.pool.specs.Picks.{keep_if, first_of, Among};
+    ghost use Rattle.pool.specs.Pools.{in_use, Within};
+    ghost use Rattle.pool.specs.Answers.{first_no, opened, closed};
+
+    // The numbers in use.
+    pub fn in_use(&self) -> &[u8]
+        ensures { result.now ≡ in_use self.now.count self.now.numbers }
+    {
+        &self.numbers[..self.count]
     }
-    let mut i: usize = 0;
-    while i < n {
-        let k = SampleNo(order[i]);
-        if set.has(k.at()) {
-            return First::At(k);
+
+    // The least sample of a set.
+    pub fn first_in(&self, set: Set) -> Option<SampleNo>
+        ensures { first_no result ≡ first_of (in_set set) (in_use self.now.count self.now.numbers) }
+    {
+        if set.is_empty() {
+            return None;
         }
-        i = i + 1;
+        let first = self.in_use().iter().find(|k| set.has(**k))?;
+        Some(SampleNo(*first))
     }
-    First::Nothing
-}
 
-#[derive(Clone, Copy)]
-pub enum Place {
-    Here(SampleNo),
-    Gap(usize),
-}
-
-// Where a row stands: its number, or the place in the order that it would take.
-pub fn seek<'a>(
-    n: usize,
-    order: &'a [u8; 256],
-    pred: &'a [u8; 256],
-    mask: &'a [u8; 256],
-    vals: &'a [i64; 1536],
-    r: Row,
-) -> Place
-    requires { n ≤ 256 }
-    ensures { Seeks (table_of pred.now mask.now vals.now) n order.now r result }
-{
-    let mut low: usize = 0;
-    let mut high = n;
-    while low < high {
-        let mid = low + (high - low) / 2;
-        let s = SampleNo(order[mid]);
-        let k = row_at(pred, mask, vals, s).rank(r);
-        match k {
-            Rank::Before => {
-                low = mid + 1;
-            }
-            Rank::Same => {
-                return Place::Here(s);
-            }
-            Rank::After => {
-                high = mid;
+    // The numbers in use that pass the test, as a set. A loop, not `fold`: what the caller's test promises is told number by number.
+    pub fn select<F: Fn(SampleNo) -> bool>(&self, test: F) -> Set
+        requires { F.IsAlwaysCallable test }
+        ensures passed { (k : ℕ) → Among k (in_use self.now.count self.now.numbers) → F.post test (record { 0 = k }) (in_set result k) }
+        ensures within { Within self.now.count self.now.numbers result }
+    {
+        let mut out = Set::empty();
+        for k in self.in_use() {
+            if test(SampleNo(*k)) {
+                out = out.with(*k);
             }
         }
+        out
     }
-    Place::Gap(low)
-}
 
-// The first free number, which stands at n, moves down to place `at`; those from there on move up.
-pub fn open(order: &mut [u8; 256], n: usize, at: usize) -> SampleNo
-    requires { (n < 256) × (at ≤ n) × (length order.old ≡ 256) }
-    ensures { (result.0 ≡ get_or order.old n 0) × (order.new ≡ opened n at order.old) }
-{
-    let x = order[n];
-    let mut i = n;
-    while at < i {
-        order[i] = order[i - 1];
-        i = i - 1;
+    // The first free number moves down to place `at`, and is in use; those from there on move up.
+    pub fn open(&mut self, at: usize) -> SampleNo
+        requires { (self.old.count < 256) × (at ≤ self.old.count) }
+        ensures fresh { result.0 ≡ get_or self.old.numbers self.old.count 0 }
+        ensures numbers { self.new.numbers ≡ opened self.old.count at self.old.numbers }
+        ensures count { self.new.count ≡ self.old.count + 1 }
+    {
+        let fresh = SampleNo(self.numbers[self.count]);
+        self.numbers[at..=self.count].rotate_right(1);
+        self.count += 1;
+        fresh
     }
-    order[at] = x;
-    SampleNo(x)
-}
 
-// The numbers in use that are in the set stay in use, in their order; gives how many. The others join the free ones.
-pub fn close(order: &mut [u8; 256], n: usize, held: Set) -> usize
-    requires { (n ≤ 256) × (length order.old ≡ 256) }
-    ensures { (result ≡ length (keep_if (in_set held) (take n order.old))) × (order.new ≡ closed n (in_set held) order.old) }
-{
-    let mut gone = [0u8; 256];
-    let mut kept: usize = 0;
-    let mut lost: usize = 0;
-    let mut i: usize = 0;
-    while i < n {
-        let x = order[i];
-        if held.has(SampleNo(x).at()) {
-            order[kept] = x;
-            kept = kept + 1;
-        } else {
-            gone[lost] = x;
-            lost = lost + 1;
-        }
-        i = i + 1;
+    // The numbers in use that are in the set stay in use, in their order. The others join the free ones.
+    pub fn close(&mut self, held: Set)
+        ensures numbers { self.new.numbers ≡ closed self.old.count (in_set held) self.old.numbers }
+        ensures count { self.new.count ≡ length (keep_if (in_set held) (in_use self.old.count self.old.numbers)) }
+    {
+        let staying = self.parted(held, true);
+        let leaving = self.parted(held, false);
+        let kept = staying.len();
+        let mut numbers = self.numbers;
+        numbers[..kept].copy_from_slice(staying.as_slice());
+        numbers[kept..self.count].copy_from_slice(leaving.as_slice());
+        self.numbers = numbers;
+        self.count = kept;
     }
-    put_back(order, kept, &gone, lost);
-    kept
-}
 
-fn put_back(order: &mut [u8; 256], at: usize, gone: &[u8; 256], n: usize)
-    requires { (at + n ≤ 256) × (length order.old ≡ 256) × (length gone.now ≡ 256) }
-    ensures { order.new ≡ take at order.old ++ (take n gone.now ++ drop (at + n) order.old) }
-{
-    let mut i: usize = 0;
-    while i < n {
-        order[at + i] = gone[i];
-        i = i + 1;
+    // The numbers in use that are in the set, or those that are not, in their order.
+    // Which of them by a bool: a test in its place would only say once more what `held` and `stays` say.
+    fn parted(&self, held: Set, stays: bool) -> ArrayVec<u8, 256>
+        ensures staying { IsTrue stays → result.items ≡ keep_if (in_set held) (in_use self.now.count self.now.numbers) }
+        ensures leaving { IsFalse stays → result.items ≡ keep_if (λ k. not (in_set held k)) (in_use self.now.count self.now.numbers) }
+    {
+        let mut part = ArrayVec::from(self.numbers);
+        part.truncate(self.count);
+        part.retain(|k| held.has(*k) == stays);
+        part
     }
 }

@@ -1,19 +1,19 @@
--- A test of two samples that goes by position. Covering, overlapping and the rank are three of them; what their loops need is said once, of any.
+-- A test of two samples that goes by position. Covering, overlapping and the rank are three of them; what they need is said once, of any.
 use mathlib.Core.Path.{◌≡◌, refl, sym, ap, ◌∙◌}
 use mathlib.Core.Bool.{Bool, true, false, not, ◌&&◌, ◌||◌}
 use mathlib.Core.List.{List, [], ◌∷◌}
 use mathlib.Core.Option.{none}
 use Prim.Native.Nat.{ℕ, zero, suc, ◌+◌, ◌^◌, ◌≤◌, ◌<◌}
 use native.Mathlib.Omega.{arith}
+use Rattle.std.proofs.Common.{Ordering, Equal}
+use Rattle.std.specs.Ordering.{ordering_then}
 use Rattle.rules.specs.Values.{Value}
-use Rattle.rules.specs.Samples.{Position, covers_all, overlaps_all, before_at, before_all}
+use Rattle.rules.specs.Samples.{Position, before_at, before_all}
 use Rattle.rules.specs.Rows.{positions_from}
-use Rattle.sample.specs.declared.row.Rank.{Rank}
-use Rattle.sample.specs.declared.row.Rank.TheVariants.{Before, Same, After}
-use Rattle.sample.specs.declared.row.Way.{Way}
-use Rattle.sample.specs.declared.row.Way.TheVariants.{Covers, Overlaps}
+use Rattle.sample.specs.declared.row.Row.{Row}
+use Rattle.sample.specs.Rows.{shown, RowOk}
 use Rattle.sample.specs.Ranks.{rank_by, rank_at}
-use Rattle.sample.specs.Ways.{agrees_at}
+use Rattle.sample.specs.Ways.{agrees_all}
 use Rattle.sample.proofs.Positions.{position_at, position_past}
 
 -- `one` is the test of two positions, `all` that of two lists of them, `join` takes the answer for the first positions and that for the rest.
@@ -30,40 +30,30 @@ pub record Pairwise (B : Type 0) : Type 0 where
   pub join : B → B → B
   pub laws : PairwiseLaws one all done join
 
-abbrev pub agrees_all : Way → List Position → List Position → Bool
-agrees_all Covers = covers_all
-agrees_all Overlaps = overlaps_all
+pub agree_laws : (test : Position → Position → Bool) → test none none ≡ true → PairwiseLaws test (agrees_all test) true ◌&&◌
+unfolding agrees_all
+agree_laws test h = record { at_end = refl; at_first = λ x y xs ys. refl; unknown = λ r. rw h }
 
-pub agree_laws : (way : Way) → PairwiseLaws (agrees_at way) (agrees_all way) true ◌&&◌
-unfolding covers_all overlaps_all
-agree_laws Covers = record { at_end = refl; at_first = λ x y xs ys. refl; unknown = λ r. refl }
-agree_laws Overlaps = record { at_end = refl; at_first = λ x y xs ys. refl; unknown = λ r. refl }
-
-abbrev pub rank_then : Rank → Rank → Rank
-rank_then Before r = Before
-rank_then Same r = r
-rank_then After r = After
-
-abbrev pub rank_all : List Position → List Position → Rank
+abbrev pub rank_all : List Position → List Position → Ordering
 rank_all xs ys = rank_by (before_all xs ys) (before_all ys xs)
 
-pub rank_laws : PairwiseLaws rank_at rank_all Same rank_then
+pub rank_laws : PairwiseLaws rank_at rank_all Equal ordering_then
 unfolding rank_at before_all
 rank_laws = record { at_end = refl; at_first = first; unknown = λ r. refl }
   where
-    by : (p q r s : Bool) → rank_by (p || (not q && r)) (q || (not p && s)) ≡ rank_then (rank_by p q) (rank_by r s)
+    by : (p q r s : Bool) → rank_by (p || (not q && r)) (q || (not p && s)) ≡ ordering_then (rank_by p q) (rank_by r s)
     by true q r s = refl
     by false true r s = refl
     by false false r s = refl
 
-    first : (x y : Position) (xs ys : List Position) → rank_all (x ∷ xs) (y ∷ ys) ≡ rank_then (rank_at x y) (rank_all xs ys)
+    first : (x y : Position) (xs ys : List Position) → rank_all (x ∷ xs) (y ∷ ys) ≡ ordering_then (rank_at x y) (rank_all xs ys)
     first x y xs ys = by (before_at x y) (before_at y x) (before_all xs ys) (before_all ys xs)
 
-abbrev pub agreeing : Way → Pairwise Bool
-agreeing way = record { one = agrees_at way; all = agrees_all way; done = true; join = ◌&&◌; laws = agree_laws way }
+abbrev pub agreeing : (test : Position → Position → Bool) → test none none ≡ true → Pairwise Bool
+agreeing test h = record { one = test; all = agrees_all test; done = true; join = ◌&&◌; laws = agree_laws test h }
 
-abbrev pub ranking : Pairwise Rank
-ranking = record { one = rank_at; all = rank_all; done = Same; join = rank_then; laws = rank_laws }
+abbrev pub ranking : Pairwise Ordering
+ranking = record { one = rank_at; all = rank_all; done = Equal; join = ordering_then; laws = rank_laws }
 
 -- Positions past the n that both masks have are unknown in both, and change no answer.
 module _ {B : Type 0} (T : Pairwise B) (n m m' : ℕ) (v v' : List Value) (few : m < 2 ^ n) (few' : m' < 2 ^ n) where
@@ -83,3 +73,14 @@ module _ {B : Type 0} (T : Pairwise B) (n m m' : ℕ) (v v' : List Value) (few :
       T.laws.at_first (position_at m v i) (position_at m' v' i) (positions_from m v j (suc i)) (positions_from m' v' j (suc i))
       ∙ ap (T.join (T.one (position_at m v i) (position_at m' v' i))) (past_positions j k (suc i) (omega arith) (omega arith))
       ∙ sym (T.laws.at_first (position_at m v i) (position_at m' v' i) (positions_from m v k (suc i)) (positions_from m' v' k (suc i)))
+
+-- The six positions of a row, the unused ones among them.
+abbrev pub six : Row → List Position
+six r = positions_from r.mask r.v 6 0
+
+-- Over the six positions as over those of the predicate.
+pub six_positions : {B : Type 0} (T : Pairwise B) (a b : Row) (of : ℕ → ℕ) → RowOk of a → RowOk of b → a.pred.0 ≡ b.pred.0
+    → T.all (six a) (six b) ≡ T.all (shown of a).at (shown of b).at
+unfolding shown
+six_positions T a b of p q e =
+    rw (← e) (sym (past_positions T (of a.pred.0) a.mask b.mask a.v b.v p.mask (rw e q.mask) (of a.pred.0) 6 0 (omega arith) p.few))

@@ -1,9 +1,9 @@
 -- The positions of a row one by one: the next one, those past the mask, how many there are, how many are known, and the mask and values that they give back.
 use mathlib.Core.Path.{◌≡◌, refl, sym, ap, ◌∙◌}
 use mathlib.Core.Bool.{Bool, true, false, cond}
-use mathlib.Core.List.{List, [], ◌∷◌}
+use mathlib.Core.List.{List, ◌∷◌, map}
 use mathlib.Core.Option.{none}
-use Prim.Native.Nat.{ℕ, zero, suc, ◌+◌, ◌-◌, ◌/◌, ◌%◌, ◌^◌, ◌≤◌, ◌<◌}
+use Prim.Native.Nat.{ℕ, zero, suc, ◌+◌, ◌/◌, ◌%◌, ◌^◌, ◌≤◌, ◌<◌}
 use native.Mathlib.Nat.{div-eq_of_lt, lt_of_lt_of_le, mod-lt, zero-lt-suc, div-add-mod'}
 use native.Mathlib.Numerals.{add-one}
 use native.Mathlib.Omega.{arith}
@@ -13,23 +13,16 @@ use lib.Count.{ones, ones_step}
 use lib.ListN.{length, get_or, drop, drop_of_length-le}
 use lib.Seq.{drop-cons}
 use borrow.Author.Tests.{eqb-true, eqb-false}
+use Rattle.std.specs.Bool.{then_some}
+use Rattle.std.specs.List.{range_with_len}
 use Rattle.rules.specs.Values.{Value, blank}
 use Rattle.rules.specs.Samples.{Position, known_count}
 use Rattle.rules.specs.Rows.{bit, position, positions_from, mask_of, value_of, values_of}
+use Rattle.sample.specs.Options.{to_code}
 
 -- Position i of a row with this mask and these values.
 abbrev pub position_at : ℕ → List Value → ℕ → Position
 position_at mask values i = position (bit mask i) (get_or values i blank)
-
--- A loop over n positions that stands at i has the position at i and those after it left.
-pub next_position : (mask : ℕ) (values : List Value) (n i : ℕ) → i < n
-    → positions_from mask values (n - i) i ≡ position_at mask values i ∷ positions_from mask values (n - suc i) (suc i)
-unfolding positions_from
-next_position mask values n i h = let e : n - i ≡ suc (n - suc i) = omega arith in rw e
-
-pub no_position : (mask : ℕ) (values : List Value) (n i : ℕ) → n ≤ i → positions_from mask values (n - i) i ≡ []
-unfolding positions_from
-no_position mask values n i h = let e : n - i ≡ 0 = omega arith in rw e
 
 -- A mask of n positions has no bit past them.
 pub bit_past : (mask n i : ℕ) → mask < 2 ^ n → n ≤ i → bit mask i ≡ false
@@ -105,3 +98,15 @@ module _ (mask : ℕ) (values : List Value) (blanks : (i : ℕ) → bit mask i �
   values_back last m (suc k) (suc n) i h l p =
       let some_left : i < length values = omega arith in
       rw (drop-cons values i blank, value_back i, values_back last m k n (suc i) (omega arith) (omega arith) (omega arith))
+
+-- The positions as a table of the position at each index.
+pub tabled_positions : (mask : ℕ) (values : List Value) (n i : ℕ) → map (λ k. to_code (position_at mask values k)) (range_with_len i n) ≡ map to_code (positions_from mask values n i)
+unfolding positions_from
+tabled_positions mask values zero i = refl
+tabled_positions mask values (suc n) i = rw add-one (ap (λ l. to_code (position_at mask values i) ∷ l) (tabled_positions mask values n (suc i)))
+
+-- The code's way to a position.
+pub then_some-position : (known : Bool) (v : Value) → then_some known v ≡ to_code (position known v)
+unfolding position
+then_some-position true v = refl
+then_some-position false v = refl

@@ -1,15 +1,15 @@
 -- Signed 64-bit values: the machine compares them by their bits, and one that goes through a local or a call is read back from its bits.
-use mathlib.Core.Path.{◌≡◌, refl, sym, ap, ◌∙◌}
+use mathlib.Core.Path.{◌≡◌, sym, ap, ◌∙◌}
 use mathlib.Core.Bool.{true}
 use Prim.Native.Nat.{◌^◌, ◌<◌}
-use lib.IntN.{ℤ, pos, negsuc}
+use lib.IntN.{ℤ}
 use lib.Dec.{eqb}
-use lib.Signed.{mag, lt_z}
+use lib.Signed.{mag}
 use mir.Syntax.{w64}
 use mir.Val.{of_z, to_z, SFits, hbits}
 use mir.Facts.{to_z-of_z}
 use borrow.Author.Tests.{eqb-true, eq-eqb}
-use Rattle.rules.specs.Values.{Value, equal_value, lower_value}
+use Rattle.rules.specs.Values.{Value, equal_value}
 use Rattle.rules.proofs.Laws.Bools.{same_truth}
 use Rattle.rules.proofs.Laws.Covering.{equal_true, equal_refl}
 
@@ -23,22 +23,8 @@ Small x = mag x < 2 ^ hbits w64
 pub read_back_lem : (x : ℤ) → Small x → read_back x ≡ x
 read_back_lem x h = to_z-of_z {w = w64} (record { sfits = h })
 
--- A test of two values that were handed to a function.
-pub read_back_both : {B : Type 0} (f : ℤ → ℤ → B) (a b : ℤ) (r : B) → SFits w64 a → SFits w64 b → r ≡ f (read_back a) (read_back b) → r ≡ f a b
-read_back_both f a b r p q e = e ∙ (rw (to_z-of_z p, to_z-of_z q))
-
 pub equal_bits : (a b : Value) → SFits w64 a → SFits w64 b → eqb (of_z w64 a) (of_z w64 b) ≡ equal_value a b
 equal_bits a b f g = same_truth (eqb (of_z w64 a) (of_z w64 b)) (equal_value a b) (λ h. rw (one h) (equal_refl b)) (λ h. eq-eqb (of_z w64 a) (of_z w64 b) (ap (of_z w64) (equal_true a b h)))
   where
     one : eqb (of_z w64 a) (of_z w64 b) ≡ true → a ≡ b
     one h = sym (to_z-of_z f) ∙ ap (to_z w64) (eqb-true (of_z w64 a) (of_z w64 b) h) ∙ to_z-of_z g
-
-lower_same : (a b : Value) → lt_z a b ≡ lower_value a b
-unfolding lower_value
-lower_same (pos m) (pos n) = refl
-lower_same (pos m) (negsuc n) = refl
-lower_same (negsuc m) (pos n) = refl
-lower_same (negsuc m) (negsuc n) = refl
-
-pub lower_bits : (a b : Value) → SFits w64 a → SFits w64 b → lt_z (read_back a) (read_back b) ≡ lower_value a b
-lower_bits a b f g = rw (to_z-of_z f, to_z-of_z g) (lower_same a b)

@@ -1,15 +1,7 @@
--- What classify's search gives back for a row's number, and where in memory the part starts that classify gives back.
-use Rattle.std.proofs.Math.Option.{Option, none, some}
+-- Where in memory the part starts that classify gives back.
 use Rattle.std.specs.Prelude.{ℕ, ◌+◌, ◌*◌}
 use Rattle.rules.specs.Sizes.{shown_size}
 use Rattle.rules.specs.Classifying.{Class, nowhere, among_positives, among_negatives}
-use Rattle.sample.specs.declared.class.Found.{Found}
-use Rattle.sample.specs.declared.class.Found.TheVariants.{At, Nothing}
-
--- The index of the row's first number.
-unfoldable pub found_at : Option ℕ → Found
-found_at none = Nothing
-found_at (some i) = At (i * shown_size)
 
 -- Where a list's number at an index stands: a block of memory, and 8 bytes a number from where the list starts in it.
 unfoldable pub place_at : ℕ → ℕ × ℕ → ℕ × ℕ

@@ -1,8 +1,9 @@
--- The declarations that the code's two arrays stand for.
+-- The declarations that the code's array stands for.
 use Rattle.std.specs.Prelude.{◌≡◌, Bool, true, false, List, [], ◌∷◌, ℕ, zero, suc, ◌≤◌, length, get_or}
 use Rattle.rules.specs.Sizes.{max_predicates, max_positions}
 use Rattle.rules.specs.Values.{Sort, integer, truth}
 use Rattle.rules.specs.Rows.{bit}
+use Rattle.sample.specs.declared.declared.Signature.{Signature}
 use Rattle.sample.specs.declared.declared.Declared.{Declared}
 
 unfoldable pub sort_by : Bool → Sort
@@ -15,9 +16,12 @@ unfolding sort_by
 sorts_from truths zero i = []
 sorts_from truths (suc k) i = sort_by (bit truths i) ∷ sorts_from truths k (suc i)
 
+unfoldable pub signature_of : Declared → ℕ → Signature
+signature_of d p = get_or d.predicates p (record { positions = 0; truths = 0 })
+
 unfoldable pub sorts_of : Declared → ℕ → List Sort
-unfolding sorts_from
-sorts_of d p = sorts_from (get_or d.truths p 0) (get_or d.positions p 0) 0
+unfolding sorts_from signature_of
+sorts_of d p = sorts_from (signature_of d p).truths (signature_of d p).positions 0
 
 -- The n predicates from p on.
 unfoldable pub declared_from : Declared → ℕ → ℕ → List (List Sort)
@@ -31,10 +35,10 @@ declared_of d = declared_from d d.count 0
 
 -- How many positions each predicate has.
 unfoldable pub positions_of : Declared → ℕ → ℕ
-positions_of d p = get_or d.positions p 0
+unfolding signature_of
+positions_of d p = (signature_of d p).positions
 
 pub record DeclaredOk (d : Declared) : Type 0 where
   pub few : d.count ≤ max_predicates
-  pub positions_length : length d.positions ≡ max_predicates
-  pub truths_length : length d.truths ≡ max_predicates
-  pub positions : (p : ℕ) → get_or d.positions p 0 ≤ max_positions
+  pub room : length d.predicates ≡ max_predicates
+  pub positions : (p : ℕ) → positions_of d p ≤ max_positions

@@ -1,3 +1,4 @@
+pub mod Options
 pub mod Signs
 pub mod Rows
 pub mod Ranks

@@ -8,6 +8,6 @@ unfoldable pub sign_of : Sign → RuleSign
 sign_of Positive = positive
 sign_of Negative = negative
 
-unfoldable pub sign_no : Sign → ℕ
+abbrev pub sign_no : Sign → ℕ
 sign_no Positive = 0
 sign_no Negative = 1

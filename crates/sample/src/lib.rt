@@ -8,7 +8,7 @@ mod numbers;
 mod row;
 
 pub use class::classify;
-pub use declared::Declared;
-pub use lent::{RowTest, row_from, row_into, row_test};
-pub use numbers::{ConsNo, PredNo, SampleNo, Sign, wide};
-pub use row::{Rank, Row};
+pub use declared::{Declared, Signature};
+pub use lent::{RowError, row_from, row_into, row_test};
+pub use numbers::{ConsNo, PredNo, SampleNo, Sign};
+pub use row::Row;

@@ -1,48 +1,27 @@
 // A row by value: covers, overlaps, its place in the order of samples, single.
-ghost use Rattle.std.specs.Prelude.{◌≡◌, Bool, ℕ, ◌<◌};
-ghost use Rattle.rules.specs.Values.{equal_value, lower_value};
-ghost use Rattle.rules.specs.Samples.{covers, overlaps, single, total};
-ghost use Rattle.rules.specs.Rows.{bit, position};
+// Whether a row is in order depends on how many positions its predicate has, which it does not hold: each promise has that as a premise.
+ghost use Rattle.std.specs.Prelude.{◌≡◌, Bool, true, ℕ, ℤ, pos, ◌<◌, map, slice_index_or, Option, None};
+ghost use Rattle.std.specs.declared.cmp.Ordering.{Ordering};
+ghost use Rattle.rules.specs.Samples.{Position, covers, overlaps, single, total};
+ghost use Rattle.rules.specs.Samples as rules;
+ghost use Rattle.rules.specs.Rows.{bit, position, positions_from};
 ghost use Rattle.sample.specs.Rows.{shown, RowOk};
-ghost use Rattle.sample.specs.Ranks.{rank_at, rank_of};
-ghost use Rattle.sample.specs.Ways.{agrees_at, agrees};
+ghost use Rattle.sample.specs.Options.{to_rules, to_code};
+ghost use Rattle.sample.specs.Ranks.{rank_of, rank_rows};
+ghost use Rattle.sample.specs.Ways.{agrees, Computes};
 
 use crate::numbers::PredNo;
+use std::array;
+use std::cmp::Ordering;
 
 // A sample: its predicate, a mask of its known positions, and six values, 0 where unknown or unused.
+// The mask stays beside the values, as the count of its ones decides singles.
 #[repr(C)]
-#[derive(Clone, Copy)]
+#[derive(Clone, Copy, PartialEq, Eq, Debug)]
 pub struct Row {
     pub pred: PredNo,
     pub mask: u8,
     pub v: [i64; 6],
-}
-
-// The two ways in which a sample can agree with another.
-#[derive(Clone, Copy)]
-pub enum Way {
-    Covers,
-    Overlaps,
-}
-
-// How two samples stand in the order.
-#[derive(Clone, Copy)]
-pub enum Rank {
-    Before,
-    Same,
-    After,
-}
-
-pub fn equal(a: i64, b: i64) -> bool
-    ensures { result ≡ equal_value a b }
-{
-    a == b
-}
-
-pub fn lower(a: i64, b: i64) -> bool
-    ensures { result ≡ lower_value a b }
-{
-    a < b
 }
 
 pub fn known(mask: u8, i: usize) -> bool
@@ -52,103 +31,75 @@ pub fn known(mask: u8, i: usize) -> bool
     (mask >> i) % 2 == 1
 }
 
-// At one position: unknown in a agrees with anything, known in a and unknown in b only where they are to overlap, two known values if equal.
-pub fn agrees_one(way: Way, ka: bool, a: i64, kb: bool, b: i64) -> bool
-    ensures { result ≡ agrees_at way (position ka a) (position kb b) }
+// At one position: an unknown one covers anything, a known one the same value.
+pub fn covers_at(a: Option<i64>, b: Option<i64>) -> bool
+    ensures { result ≡ rules.covers_at (to_rules a) (to_rules b) }
 {
-    if !ka {
-        return true;
+    match (a, b) {
+        (None, _) => true,
+        (Some(_), None) => false,
+        (Some(x), Some(y)) => x == y,
     }
-    if !kb {
-        return match way {
-            Way::Covers => false,
-            Way::Overlaps => true,
-        };
-    }
-    equal(a, b)
 }
 
-// At one position: unknown first, then rising value.
-pub fn rank_one(ka: bool, a: i64, kb: bool, b: i64) -> Rank
-    ensures { result ≡ rank_at (position ka a) (position kb b) }
+// At one position: unless both are known and different.
+pub fn overlaps_at(a: Option<i64>, b: Option<i64>) -> bool
+    ensures { result ≡ rules.overlaps_at (to_rules a) (to_rules b) }
 {
-    if !ka {
-        if !kb {
-            return Rank::Same;
-        }
-        return Rank::Before;
+    match (a, b) {
+        (Some(x), Some(y)) => x == y,
+        _ => true,
     }
-    if !kb {
-        return Rank::After;
-    }
-    if lower(a, b) {
-        return Rank::Before;
-    }
-    if lower(b, a) {
-        return Rank::After;
-    }
-    Rank::Same
 }
 
 impl Row {
-    pub fn agrees(self, b: Row, way: Way) -> bool
-        ensures { (positions : ℕ → ℕ) → RowOk positions self → RowOk positions b → result ≡ agrees way (shown positions self) (shown positions b) }
+    // Position i, if it is known.
+    fn position(self, i: usize) -> Option<i64>
+        requires { i < 6 }
+        ensures { result ≡ to_code (position (bit self.mask i) (slice_index_or self.v i (pos 0))) }
     {
-        if self.pred.0 != b.pred.0 {
-            return false;
-        }
-        let mut i: usize = 0;
-        while i < 6 {
-            if !agrees_one(
-                way,
-                known(self.mask, i),
-                self.v[i],
-                known(b.mask, i),
-                b.v[i],
-            ) {
-                return false;
-            }
-            i = i + 1;
-        }
-        true
+        known(self.mask, i).then_some(self.v[i])
+    }
+
+    // The six positions, the unused ones unknown.
+    fn positions(self) -> [Option<i64>; 6]
+        ensures { result ≡ map to_code (positions_from self.mask self.v 6 0) }
+    {
+        array::from_fn(|i| self.position(i))
+    }
+
+    // Of one predicate, and the test passes at each position.
+    fn agrees<F: Fn(Option<i64>, Option<i64>) -> bool>(self, b: Row, test: F) -> bool
+        requires { F.IsAlwaysCallable test }
+        ensures { (by : Position → Position → Bool) → Computes (F.post test) by → by (to_rules None) (to_rules None) ≡ true → (positions : ℕ → ℕ) → RowOk positions self → RowOk positions b → result ≡ agrees by (shown positions self) (shown positions b) }
+    {
+        self.pred == b.pred
+            && (0..6).all(
+                |i: usize|
+                    requires { (i < 6) × F.IsAlwaysCallable test }
+                { test(self.position(i), b.position(i)) },
+            )
     }
 
     pub fn covers(self, b: Row) -> bool
         ensures { (positions : ℕ → ℕ) → RowOk positions self → RowOk positions b → result ≡ covers (shown positions self) (shown positions b) }
     {
-        self.agrees(b, Way::Covers)
+        self.agrees(b, covers_at)
     }
 
     pub fn overlaps(self, b: Row) -> bool
         ensures { (positions : ℕ → ℕ) → RowOk positions self → RowOk positions b → result ≡ overlaps (shown positions self) (shown positions b) }
     {
-        self.agrees(b, Way::Overlaps)
+        self.agrees(b, overlaps_at)
     }
 
-    pub fn rank(self, b: Row) -> Rank
-        ensures { (positions : ℕ → ℕ) → RowOk positions self → RowOk positions b → result ≡ rank_of (shown positions self) (shown positions b) }
+    // The order of samples: by predicate, then position by position: unknown first, then rising value.
+    // Not `Ord`: rows that differ only in values that no bit shows would compare equal.
+    pub fn rank(self, b: Row) -> Ordering
+        ensures rows { result ≡ rank_rows self b }
+        ensures samples { (positions : ℕ → ℕ) → RowOk positions self → RowOk positions b → result ≡ rank_of (shown positions self) (shown positions b) }
     {
-        if self.pred.0 < b.pred.0 {
-            return Rank::Before;
-        }
-        if b.pred.0 < self.pred.0 {
-            return Rank::After;
-        }
-        let mut i: usize = 0;
-        while i < 6 {
-            let k = rank_one(known(self.mask, i), self.v[i], known(b.mask, i), b.v[i]);
-            match k {
-                Rank::Before => {
-                    return Rank::Before;
-                }
-                Rank::After => {
-                    return Rank::After;
-                }
-                Rank::Same => {}
-            }
-            i = i + 1;
-        }
-        Rank::Same
+        (self.pred, self.positions()).cmp(&(b.pred, b.positions()))
     }
 
     // More than one position, and exactly one known: the count of ones of the mask decides.
@@ -156,13 +107,13 @@ impl Row {
         ensures { (of : ℕ → ℕ) → RowOk of self → positions ≡ of self.pred.0 → result ≡ single (shown of self) }
     {
         let several = 1 < positions;
-        several && u32::count_ones(self.mask as u32) == 1
+        several && self.mask.count_ones() == 1
     }
 
-    // No position is unknown.
+    // No position is unknown. (A count of ones is a `u32`, of which there is no `usize::from`.)
     pub fn total(self, positions: usize) -> bool
         ensures { (of : ℕ → ℕ) → RowOk of self → positions ≡ of self.pred.0 → result ≡ total (shown of self) }
     {
-        u32::count_ones(self.mask as u32) as usize == positions
+        self.mask.count_ones() as usize == positions
     }
 }

@@ -1,15 +1,19 @@
 -- A set by its four words: from what holds of each word to what holds of the set.
-use mathlib.Core.Path.{◌≡◌, refl, ap, subst, sym, ◌∙◌}
-use mathlib.Core.Bool.{Bool, true, false, cond, ◌&&◌}
+use mathlib.Core.Path.{◌≡◌, refl, ap, sym, ◌∙◌}
+use mathlib.Core.Bool.{Bool, true, false, cond, ◌||◌}
+use mathlib.Core.Logic.{inl, inr}
 use Prim.Native.Nat.{ℕ, zero, suc, ◌+◌, ◌*◌, ◌/◌, ◌%◌, ◌^◌, ◌≤◌, ◌<◌}
 use native.Mathlib.Omega.{arith}
 use lib.Dec.{eqb, ltb}
+use lib.ListN.{length, get_or, take, set}
+use lib.Bits.{bit_or, or_lt}
+use Rattle.std.proofs.lemmas.List.{get_or-take, get_or_past, length-take, get_or-set_same, get_or-set_other}
 use borrow.Author.Tests.{eqb-true, eqb-false, eq-eqb, ne_eqb, ltb-true, ltb-false}
 use Rattle.rules.specs.Rows.{bit}
-use Rattle.rules.proofs.Laws.Bools.{same_truth, both}
+use Rattle.rules.proofs.Laws.Bools.{same_truth, both, or_split, or_neither}
 use Rattle.words.specs.Sets.{word_at, in_set, count_of, Bits, Holds, Emptiness}
 use Rattle.words.specs.declared.set.Set.{Set}
-use Rattle.words.proofs.Bits.{bit_of_zero, some_bit}
+use Rattle.words.proofs.Bits.{bit_or_by_bit, bit_of_zero, some_bit}
 use Rattle.words.proofs.Counting.{count_le, count_same, count_parts}
 
 -- A fact of each of the four words.
@@ -25,25 +29,33 @@ pub in_word : (s : Set) (j i : ℕ) → i < 64 → in_set s (64 * j + i) ≡ bit
 unfolding in_set
 in_word s j i h = let e : (64 * j + i) / 64 ≡ j = omega arith in let f : (64 * j + i) % 64 ≡ i = omega arith in rw (e, f)
 
+-- Within the four words, what an index reads.
+pub word_read : (s : Set) (j : ℕ) → j < 4 → get_or s.words j 0 ≡ word_at s j
+unfolding word_at
+word_read s j h = rw (get_or-take 4 s.words j 0 h)
+
 -- An operation that f does on each bit of each word does f on each number.
-pub each_word : (f : Bool → Bool → Bool) (r s t : Set) → ((j : ℕ) → j < 4 → Bits (word_at r j) (λ i. f (bit (word_at s j) i) (bit (word_at t j) i)))
+pub each_word : (f : Bool → Bool → Bool) (r s t : Set)
+    → ((j : ℕ) → j < 4 → Bits (get_or r.words j 0) (λ i. f (bit (get_or s.words j 0) i) (bit (get_or t.words j 0) i)))
     → Holds r (λ k. f (in_set s k) (in_set t k))
 unfolding in_set
-each_word f r s t h k l = h (k / 64) (omega arith) (k % 64) (omega arith)
-
-pub four_words : (f : Bool → Bool → Bool) (r s t : Set)
-    → Bits r.a (λ i. f (bit s.a i) (bit t.a i))
-    → Bits r.b (λ i. f (bit s.b i) (bit t.b i))
-    → Bits r.c (λ i. f (bit s.c i) (bit t.c i))
-    → Bits r.d (λ i. f (bit s.d i) (bit t.d i))
-    → Holds r (λ k. f (in_set s k) (in_set t k))
-unfolding word_at
-four_words f r s t a b c d =
-    each_word f r s t (by_word (λ j. Bits (word_at r j) (λ i. f (bit (word_at s j) i) (bit (word_at t j) i))) a b c d)
+each_word f r s t h k l =
+    let j : k / 64 < 4 = omega arith in
+    rw (← word_read r (k / 64) j, ← word_read s (k / 64) j, ← word_read t (k / 64) j) (h (k / 64) j (k % 64) (omega arith))
 
 -- The set with x for its word j.
 abbrev pub Put : Set → Set → ℕ → ℕ → Type 0
 Put r s j x = (i : ℕ) → i < 4 → word_at r i ≡ cond (eqb i j) x (word_at s i)
+
+pub put_word : (r s : Set) (j x : ℕ) → j < length s.words → r.words ≡ set s.words j x → Put r s j x
+put_word r s j x room written i h = go (eqb i j) refl
+  where
+    here : word_at r i ≡ get_or (set s.words j x) i 0
+    here = sym (word_read r i h) ∙ ap (λ l. get_or l i 0) written
+
+    go : (b : Bool) → eqb i j ≡ b → word_at r i ≡ cond b x (word_at s i)
+    go true e = let same : i ≡ j = eqb-true i j e in here ∙ rw (same, get_or-set_same s.words j x 0 room)
+    go false e = here ∙ (get_or-set_other s.words j i x 0 (eqb-false i j e) ∙ word_read s i h)
 
 -- A word changed by f at one bit, and put back, changes the set by f at one number.
 pub one_bit_put : (f : Bool → Bool → Bool) (r s : Set) (k w x : ℕ) → ((b : Bool) → f false b ≡ b) → w ≡ word_at s (k / 64)
@@ -70,13 +82,9 @@ one_bit_put f r s k w x keep old changed put n l = go (eqb (n / 64) (k / 64)) re
         rw (kept, number) (sym (keep (bit (word_at s (n / 64)) (n % 64))))
 
 -- Past the four words there is nothing.
-pub word_past : (s : Set) (j : ℕ) → 4 ≤ j → word_at s j ≡ 0
+word_past : (s : Set) (j : ℕ) → 4 ≤ j → word_at s j ≡ 0
 unfolding word_at
-word_past s zero h = absurd (omega arith)
-word_past s (suc zero) h = absurd (omega arith)
-word_past s (suc (suc zero)) h = absurd (omega arith)
-word_past s (suc (suc (suc zero))) h = absurd (omega arith)
-word_past s (suc (suc (suc (suc j)))) h = refl
+word_past s j h = get_or_past (take 4 s.words) j 0 (omega (arith, length-take 4 s.words))
 
 pub past : (s : Set) (k : ℕ) → 256 ≤ k → in_set s k ≡ false
 unfolding in_set
@@ -98,30 +106,7 @@ no_word s h k l = rw (h (k / 64) (omega arith), bit_of_zero (k % 64))
 -- A word that is not 0 has a member.
 pub member : (s : Set) (j : ℕ) → j < 4 → word_at s j < 2 ^ 64 → (word_at s j ≡ 0 → ⊥) → (k : ℕ) × (k < 256) × (in_set s k ≡ true)
 member s j h fits n =
-    let i = some_bit 64 (word_at s j) fits n in (64 * j + i.0, omega (arith, i.1), in_word s j i.0 i.1 ∙ i.2)
-
--- The words tested in order, the first three before the last.
-pub emptiness : (s : Set) → s.a < 2 ^ 64 → s.b < 2 ^ 64 → s.c < 2 ^ 64 → s.d < 2 ^ 64
-    → Emptiness s (((eqb s.a 0 && eqb s.b 0) && eqb s.c 0) && eqb s.d 0)
-unfolding word_at
-emptiness s fa fb fc fd = go (eqb s.a 0) (eqb s.b 0) (eqb s.c 0) (eqb s.d 0) refl refl refl refl
-  where
-    not_empty : (k : ℕ) × (k < 256) × (in_set s k ≡ true) → Emptiness s false
-    not_empty m = record { none = λ e. both e refl; some = λ e. m }
-
-    go : (a b c d : Bool) → eqb s.a 0 ≡ a → eqb s.b 0 ≡ b → eqb s.c 0 ≡ c → eqb s.d 0 ≡ d → Emptiness s (((a && b) && c) && d)
-    go false b c d p q r t = not_empty (member s 0 (omega arith) fa (eqb-false s.a 0 p))
-    go true false c d p q r t = not_empty (member s 1 (omega arith) fb (eqb-false s.b 0 q))
-    go true true false d p q r t = not_empty (member s 2 (omega arith) fc (eqb-false s.c 0 r))
-    go true true true false p q r t = not_empty (member s 3 (omega arith) fd (eqb-false s.d 0 t))
-    go true true true true p q r t = record {
-      none = λ e. no_word s (by_word (λ j. word_at s j ≡ 0) (eqb-true s.a 0 p) (eqb-true s.b 0 q) (eqb-true s.c 0 r) (eqb-true s.d 0 t));
-      some = λ e. both refl e;
-    }
-
-pub emptiness_told : (s : Set) (told : Bool) → s.a < 2 ^ 64 → s.b < 2 ^ 64 → s.c < 2 ^ 64 → s.d < 2 ^ 64
-    → (((eqb s.a 0 && eqb s.b 0) && eqb s.c 0) && eqb s.d 0) ≡ told → Emptiness s told
-emptiness_told s told fa fb fc fd e = subst (Emptiness s) e (emptiness s fa fb fc fd)
+    let i = some_bit (word_at s j) fits n in (64 * j + i.0, omega (arith, i.1), in_word s j i.0 i.1 ∙ i.2)
 
 -- The members below a word's end: those before the word, and its bits.
 pub count_word : (s : Set) (j : ℕ) → count_of (in_set s) (64 * j + 64) ≡ count_of (in_set s) (64 * j) + count_of (bit (word_at s j)) 64
@@ -129,10 +114,61 @@ count_word s j =
     count_parts (in_set s) (64 * j) 64
     ∙ ap (λ (n : ℕ). count_of (in_set s) (64 * j) + n) (count_same (λ i. in_set s (64 * j + i)) (bit (word_at s j)) 64 (in_word s j))
 
-pub count_words : (s : Set)
-    → count_of (in_set s) 256 ≡ count_of (bit s.a) 64 + count_of (bit s.b) 64 + count_of (bit s.c) 64 + count_of (bit s.d) 64
-unfolding word_at
-count_words s = omega (arith, count_word s 0, count_word s 1, count_word s 2, count_word s 3, count_le (in_set s) 0)
+-- The members are counted a word at a time.
+pub count_none : (s : Set) → count_of (in_set s) (64 * 0) ≡ 0
+count_none s = omega (arith, count_le (in_set s) 0)
 
-pub words_fit : (s : Set) → count_of (bit s.a) 64 + count_of (bit s.b) 64 + count_of (bit s.c) 64 + count_of (bit s.d) 64 ≤ 256
-words_fit s = omega (arith, count_words s, count_le (in_set s) 256)
+pub count_more : (s : Set) (j : ℕ) → j < 4 → count_of (in_set s) (64 * j) + count_of (bit (get_or s.words j 0)) 64 ≡ count_of (in_set s) (64 * (j + 1))
+count_more s j h =
+    let e : 64 * (j + 1) ≡ 64 * j + 64 = omega arith in
+    rw (word_read s j h, e) (sym (count_word s j))
+
+-- All the words' bits, in one word: none, or one that is a member.
+pub emptiness : (s : Set)
+    → get_or s.words 0 0 < 2 ^ 64 → get_or s.words 1 0 < 2 ^ 64 → get_or s.words 2 0 < 2 ^ 64 → get_or s.words 3 0 < 2 ^ 64
+    → Emptiness s (eqb (bit_or (bit_or (bit_or (get_or s.words 0 0) (get_or s.words 1 0)) (get_or s.words 2 0)) (get_or s.words 3 0)) 0)
+unfolding in_set
+emptiness s first second third last = go (eqb all 0) refl
+  where
+    word : ℕ → ℕ
+    word j = get_or s.words j 0
+
+    all : ℕ
+    all = bit_or (bit_or (bit_or (word 0) (word 1)) (word 2)) (word 3)
+
+    fits : all < 2 ^ 64
+    fits = or_lt 64 _ _ (or_lt 64 _ _ (or_lt 64 _ _ first second) third) last
+
+    bits : (i : ℕ) → bit all i ≡ (((bit (word 0) i || bit (word 1) i) || bit (word 2) i) || bit (word 3) i)
+    bits i =
+        rw (bit_or_by_bit i (bit_or (bit_or (word 0) (word 1)) (word 2)) (word 3), bit_or_by_bit i (bit_or (word 0) (word 1)) (word 2), bit_or_by_bit i (word 0) (word 1))
+
+    member : (i j : ℕ) → i < 64 → j < 4 → bit (word j) i ≡ true → (k : ℕ) × (k < 256) × (in_set s k ≡ true)
+    member i j h l e = (64 * j + i, omega arith, in_word s j i h ∙ (ap (λ w. bit w i) (sym (word_read s j l)) ∙ e))
+
+    none_in : all ≡ 0 → (i j : ℕ) → j < 4 → bit (word j) i ≡ false
+    none_in z i =
+        let last = or_neither ((bit (word 0) i || bit (word 1) i) || bit (word 2) i) (bit (word 3) i) (sym (bits i) ∙ (ap (λ w. bit w i) z ∙ bit_of_zero i)) in
+        let third = or_neither (bit (word 0) i || bit (word 1) i) (bit (word 2) i) last.0 in
+        let first = or_neither (bit (word 0) i) (bit (word 1) i) third.0 in
+        by_word (λ j. bit (word j) i ≡ false) first.0 first.1 third.1 last.1
+
+    found : (i : ℕ) → i < 64 → (((bit (word 0) i || bit (word 1) i) || bit (word 2) i) || bit (word 3) i) ≡ true → (k : ℕ) × (k < 256) × (in_set s k ≡ true)
+    found i h t =
+        elim (or_split ((bit (word 0) i || bit (word 1) i) || bit (word 2) i) (bit (word 3) i) t) [
+          | inl t ↦ elim (or_split (bit (word 0) i || bit (word 1) i) (bit (word 2) i) t) [
+            | inl t ↦ elim (or_split (bit (word 0) i) (bit (word 1) i) t) [ inl t ↦ member i 0 h (omega arith) t | inr t ↦ member i 1 h (omega arith) t ]
+            | inr t ↦ member i 2 h (omega arith) t
+          ]
+          | inr t ↦ member i 3 h (omega arith) t
+        ]
+
+    go : (told : Bool) → eqb all 0 ≡ told → Emptiness s told
+    go true e = record {
+      none = λ r k l. rw (← word_read s (k / 64) (omega arith)) (none_in (eqb-true all 0 e) (k % 64) (k / 64) (omega arith));
+      some = λ r. both refl r;
+    }
+    go false e = record {
+      none = λ r. both r refl;
+      some = λ r. let i = some_bit all fits (eqb-false all 0 e) in found i.0 i.1 (sym (bits i.0) ∙ i.2);
+    }

@@ -1,11 +1,12 @@
 -- What a set of numbers below 256 holds: number k is bit k % 64 of word k / 64.
-use Rattle.std.specs.Prelude.{◌≡◌, Bool, true, false, [], ◌∷◌, ℕ, zero, suc, ◌/◌, ◌%◌, ◌<◌, get_or}
+use Rattle.std.specs.Prelude.{◌≡◌, Bool, true, false, ℕ, zero, suc, ◌/◌, ◌%◌, ◌<◌, get_or, take}
 use Rattle.rules.specs.Rows.{bit}
 use Rattle.rules.specs.Contents.{count_if}
 use Rattle.words.specs.declared.set.Set.{Set}
 
+-- Past the four words there is nothing.
 unfoldable pub word_at : Set → ℕ → ℕ
-word_at s j = get_or (s.a ∷ s.b ∷ s.c ∷ s.d ∷ []) j 0
+word_at s j = get_or (take 4 s.words) j 0
 
 unfoldable pub in_set : Set → ℕ → Bool
 unfolding word_at

@@ -1,128 +1,107 @@
 // The set: number k is bit k % 64 of word k / 64.
-ghost use Rattle.std.specs.Prelude.{◌≡◌, Bool, ◌&&◌, ◌||◌, not, false, cond, ℕ, ◌<◌, eqb};
+ghost use Rattle.std.specs.Prelude.{◌≡◌, Bool, ◌&&◌, ◌||◌, not, false, cond, ℕ, ◌<◌, eqb, slice_index};
 ghost use Rattle.words.specs.Sets.{word_at, in_set, count_of, Holds, Emptiness};
 
-use crate::word::{bit_in, both, either, less, ones, with_bit, without_bit};
+use crate::word::{bit_in, both, either, less, one_bit, ones};
+use std::array;
 
 #[repr(C)]
-#[derive(Clone, Copy)]
+#[derive(Clone, Copy, PartialEq, Eq)]
 pub struct Set {
-    pub a: u64,
-    pub b: u64,
-    pub c: u64,
-    pub d: u64,
+    pub words: [u64; 4],
 }
 
 impl Set {
+    #[tactic(auto, unfolding(crate::specs::Sets::word_at), using(crate::proofs::FourWords::no_word))]
     pub fn empty() -> Set
         ensures { Holds result (λ k. false) }
     {
-        Set {
-            a: 0,
-            b: 0,
-            c: 0,
-            d: 0,
-        }
+        Set { words: [0; 4] }
     }
 
+    #[tactic(auto, using(crate::proofs::FourWords::word_read))]
     pub fn word(self, j: usize) -> u64
         requires { j < 4 }
         ensures { result ≡ word_at self j }
     {
-        if j == 0 {
-            return self.a;
-        }
-        if j == 1 {
-            return self.b;
-        }
-        if j == 2 {
-            return self.c;
-        }
-        self.d
+        self.words[j]
     }
 
     // The set with x for its word j.
+    #[tactic(auto, using(crate::proofs::FourWords::put_word))]
     pub fn put(mut self, j: usize, x: u64) -> Set
         requires { j < 4 }
         ensures { (i : ℕ) → i < 4 → word_at result i ≡ cond (eqb i j) x (word_at self i) }
     {
-        if j == 0 {
-            self.a = x;
-        } else if j == 1 {
-            self.b = x;
-        } else if j == 2 {
-            self.c = x;
-        } else {
-            self.d = x;
-        }
+        self.words[j] = x;
         self
     }
 
-    pub fn has(self, k: usize) -> bool
-        requires { k < 256 }
+    pub fn has(self, k: u8) -> bool
         ensures { result ≡ in_set self k }
     {
-        bit_in(self.word(k / 64), k % 64)
+        bit_in(self.word(usize::from(k / 64)), k % 64)
     }
 
-    pub fn with(self, k: usize) -> Set
-        requires { k < 256 }
+    pub fn with(self, k: u8) -> Set
         ensures { Holds result (λ j. eqb j k || in_set self j) }
     {
-        let j = k / 64;
-        self.put(j, with_bit(self.word(j), k % 64))
+        let j = usize::from(k / 64);
+        self.put(j, self.word(j) | one_bit(k % 64))
     }
 
-    pub fn without(self, k: usize) -> Set
-        requires { k < 256 }
+    pub fn without(self, k: u8) -> Set
         ensures { Holds result (λ j. not (eqb j k) && in_set self j) }
     {
-        let j = k / 64;
-        self.put(j, without_bit(self.word(j), k % 64))
+        let j = usize::from(k / 64);
+        self.put(j, self.word(j) & !one_bit(k % 64))
+    }
+
+    // Each word of the set with the same word of the other, by f.
+    fn each_word<F: Fn(u64, u64) -> u64>(self, s: Set, f: F) -> Set
+        requires { F.IsAlwaysCallable f }
+        ensures { (j : ℕ) → j < 4 → F.post f (slice_index self.words j) (slice_index s.words j) (slice_index result.words j) }
+    {
+        Set {
+            words: array::from_fn(|j| f(self.words[j], s.words[j])),
+        }
     }
 
     pub fn minus(self, s: Set) -> Set
         ensures { Holds result (λ k. in_set self k && not (in_set s k)) }
     {
-        Set {
-            a: less(self.a, s.a),
-            b: less(self.b, s.b),
-            c: less(self.c, s.c),
-            d: less(self.d, s.d),
-        }
+        self.each_word(s, less)
     }
 
     pub fn join(self, s: Set) -> Set
         ensures { Holds result (λ k. in_set self k || in_set s k) }
     {
-        Set {
-            a: either(self.a, s.a),
-            b: either(self.b, s.b),
-            c: either(self.c, s.c),
-            d: either(self.d, s.d),
-        }
+        self.each_word(s, either)
     }
 
     pub fn meet(self, s: Set) -> Set
         ensures { Holds result (λ k. in_set self k && in_set s k) }
     {
-        Set {
-            a: both(self.a, s.a),
-            b: both(self.b, s.b),
-            c: both(self.c, s.c),
-            d: both(self.d, s.d),
-        }
+        self.each_word(s, both)
     }
 
+    // One test of the four words together, not four comparisons: a draw asks it at every turn.
+    #[tactic(auto, using(crate::proofs::FourWords::emptiness))]
     pub fn is_empty(self) -> bool
         ensures { Emptiness self result }
     {
-        self.a == 0 && self.b == 0 && self.c == 0 && self.d == 0
+        let [a, b, c, d] = self.words;
+        a | b | c | d == 0
     }
 
     pub fn count(self) -> usize
         ensures { result ≡ count_of (in_set self) 256 }
     {
-        ones(self.a) + ones(self.b) + ones(self.c) + ones(self.d)
+        // A loop, not `sum`: that the sum stays small is told word by word.
+        let mut n = 0;
+        for w in &self.words {
+            n += ones(*w);
+        }
+        n
     }
 }

@@ -1,57 +1,48 @@
 // One word: 64 bits.
-ghost use Rattle.std.specs.Prelude.{◌≡◌, ◌&&◌, ◌||◌, not, ℕ, ◌<◌, eqb};
+ghost use Rattle.std.specs.Prelude.{◌≡◌, ◌<◌, eqb, ◌&&◌, ◌||◌, not};
 ghost use Rattle.rules.specs.Rows.{bit};
 ghost use Rattle.words.specs.Sets.{Bits, count_of};
 
-pub fn bit_in(x: u64, i: usize) -> bool
+pub fn bit_in(x: u64, i: u8) -> bool
     requires { i < 64 }
     ensures { result ≡ bit x i }
 {
     (x >> i) % 2 == 1
 }
 
-pub fn one_bit(i: usize) -> u64
+#[tactic(auto, using(crate::proofs::Bits::bit_of_shift))]
+pub fn one_bit(i: u8) -> u64
     requires { i < 64 }
     ensures { Bits result (λ j. eqb j i) }
 {
-    1u64 << i
-}
-
-pub fn with_bit(x: u64, i: usize) -> u64
-    requires { i < 64 }
-    ensures { Bits result (λ j. eqb j i || bit x j) }
-{
-    x | one_bit(i)
-}
-
-pub fn without_bit(x: u64, i: usize) -> u64
-    requires { i < 64 }
-    ensures { Bits result (λ j. not (eqb j i) && bit x j) }
-{
-    x & !one_bit(i)
+    1 << i
 }
 
 // The bits of x that are not in y.
+#[tactic(auto, using(crate::proofs::Bits::bits_less))]
 pub fn less(x: u64, y: u64) -> u64
     ensures { Bits result (λ i. bit x i && not (bit y i)) }
 {
     x & !y
 }
 
+#[tactic(auto, using(crate::proofs::Bits::bit_or_by_bit))]
 pub fn either(x: u64, y: u64) -> u64
     ensures { Bits result (λ i. bit x i || bit y i) }
 {
     x | y
 }
 
+#[tactic(auto, using(crate::proofs::Bits::bit_and_by_bit))]
 pub fn both(x: u64, y: u64) -> u64
     ensures { Bits result (λ i. bit x i && bit y i) }
 {
     x & y
 }
 
+// The cast stays: there is no `usize::from` of a `u32`, and a `try_from` would need an answer for a case that never comes.
 pub fn ones(x: u64) -> usize
     ensures { result ≡ count_of (bit x) 64 }
 {
-    u64::count_ones(x) as usize
+    x.count_ones() as usize
 }

@@ -1,30 +1,16 @@
--- `first_covering` gives back where the first covering row starts. Invariant: the search of all rows is what is left of it from row k on. Assumes nothing.
-use mathlib.Core.Path.{sym, ap, ◌∙◌}
-use native.Mathlib.Omega.{arith}
-use Rattle.sample.specs.Classes.{found_at}
-use Rattle.sample.proofs.Classes.{first_whole, first_stops, first_goes_on, first_end}
+-- `sample::class::first_covering` meets its contract: the chunks are the rules' whole rows, and it stops at the first that covers.
+use Rattle.std.proofs.Common.{ap, ◌∙◌, rules, tests}
+use Rattle.std.proofs.lemmas.Iterator.Search.{position_from_yields_List}
+use Rattle.std.proofs.lemmas.Iterator.Adapters.{position_from-zero}
+use Rattle.rules.specs.Classifying.{whole_rows}
+use Rattle.sample.specs.Options.{to_rules}
+use Rattle.sample.proofs.Classes.{gives_rows, covers_row, first_found}
 use Rattle.sample.proofs.class.first_covering.Goals as goal
 
-pub loop-k-init : goal.loop-k-init
-loop-k-init c = (omega arith, first_whole c.args.positions c.args.row.now c.args.list.now)
-
-pub returns-then-row_covers : goal.returns-then-row_covers
-unfolding found_at
-returns-then-row_covers c =
-    let a = c.args in
-    sym (ap found_at (c.loop-k.invariant.1 ∙ first_stops a.positions a.row.now a.list.now c.loop-k.k
-    c.row_covers.result c.loop-k-test.true c.row_covers.ensures c.if-row_covers.true))
-
-pub loop-k-preserved : goal.loop-k-preserved
-loop-k-preserved c =
-    let a = c.args in (
-      omega arith,
-      c.loop-k.invariant.1 ∙ first_goes_on a.positions a.row.now a.list.now c.loop-k.k
-          c.row_covers.result c.loop-k-test.true c.row_covers.ensures c.if-row_covers.false,
-    )
-
 pub returns : goal.returns
-unfolding found_at
 returns c =
     let a = c.args in
-    sym (ap found_at (c.loop-k.invariant.1 ∙ first_end a.positions a.row.now a.list.now c.loop-k.k c.loop-k-test.false))
+    let covers = covers_row a.positions a.row.now in
+    let rows = gives_rows a.list.now c.chunks_exact.ensures.rest c.chunks_exact.ensures.size in
+    let found = position_from_yields_List covers _ _ c.position.result c.position.ensures.ran rows (λ x b q k. search (rules, tests)) in
+    ap to_rules (found ∙ position_from-zero covers (whole_rows a.list.now)) ∙ first_found a.positions a.row.now (whole_rows a.list.now) 0

@@ -1,21 +1,23 @@
--- `sample::lent::value_fits` meets its contract: each of its four ways out is the rules' test at what it has found out.
-use Rattle.sample.proofs.Fitting.{blank_fits, integer_fits, zero_fits, one_fits}
+-- `sample::lent::value_fits` meets its contract: each of its ways out is the rules' test at what it has found out.
+use Rattle.std.proofs.Common.{arith}
+use Rattle.std.proofs.lemmas.Bool.Decides.{nat_tests}
+use Rattle.rules.specs.Values.{equal_value, in_i64, valid_value}
+use Rattle.rules.specs.Rows.{value_fits}
+use Rattle.sample.specs.Declarations.{sort_by}
 use Rattle.sample.proofs.lent.value_fits.Goals as goal
 
-pub returns-then-not-known : goal.returns-then-not-known
-returns-then-not-known c = rw c.if-not-known.true (blank_fits _ c.args.v c.ranges.v)
+pub returns-in-false-default : goal.returns-in-false-default
+unfolding value_fits equal_value
+returns-in-false-default c = grind (arith, nat_tests)
 
-pub returns-then-not-truth : goal.returns-then-not-truth
-returns-then-not-truth c =
-    rw (c.if-not-known.false, c.if-not-truth.true)
-    (integer_fits c.args.v c.ranges.v)
+pub returns-in-true-false : goal.returns-in-true-false
+unfolding value_fits valid_value in_i64 sort_by
+returns-in-true-false c = grind (arith, nat_tests)
 
 pub returns-then-v-eq0 : goal.returns-then-v-eq0
-returns-then-v-eq0 c =
-    rw (c.if-not-known.false, c.if-not-truth.false)
-    (zero_fits c.args.v c.ranges.v c.if-v-eq0.true)
+unfolding value_fits valid_value equal_value sort_by
+returns-then-v-eq0 c = grind (arith, nat_tests)
 
 pub returns-else-v-eq0 : goal.returns-else-v-eq0
-returns-else-v-eq0 c =
-    rw (c.if-not-known.false, c.if-not-truth.false)
-    (one_fits c.args.v c.ranges.v c.if-v-eq0.false)
+unfolding value_fits valid_value equal_value sort_by
+returns-else-v-eq0 c = grind (arith, nat_tests)

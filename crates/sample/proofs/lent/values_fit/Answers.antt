@@ -1,28 +1,16 @@
--- `sample::lent::values_fit` meets its contract. The loop's invariant: for any count of positions that the mask leaves room for, what the rules ask of
--- the six values is what they ask of those from i on. The measure is how many are left.
-use mathlib.Core.Path.{refl, sym, ◌∙◌}
-use native.Mathlib.Omega.{arith}
-use Rattle.sample.proofs.Fitting.{left-turn, left_none}
+-- `sample::lent::values_fit` meets its contract: it asks of each of the six positions what the rules ask there.
+use Rattle.std.proofs.Common.{refl, ◌∙◌, rules, tests}
+use Rattle.std.proofs.lemmas.Int.{to_z-of_z}
+use Rattle.std.proofs.lemmas.Iterator.{YieldsList-from_range}
+use Rattle.std.proofs.lemmas.Iterator.Search.{all_from_yields_List}
+use Rattle.rules.specs.Rows.{row_of}
+use Rattle.sample.proofs.Fitting.{fits_at, all_fit}
 use Rattle.sample.proofs.lent.values_fit.Goals as goal
 
-pub loop-i-init : goal.loop-i-init
-loop-i-init c = (omega arith, λ n le h. refl)
-
-pub returns-then-not-value_fits : goal.returns-then-not-value_fits
-returns-then-not-value_fits c n le h =
-    let turn = left-turn c.args.rows.now c.args.at c.args.mask c.args.truths n c.loop-i.i _ _ c.value_fits.result c.loop-i-test.true h
-    (omega arith) c.known.ensures c.known-in-loop-i.ensures c.value_fits.ensures in
-    sym (c.loop-i.invariant.1 n le h ∙ (rw c.if-not-value_fits.true at turn))
-
-pub loop-i-preserved : goal.loop-i-preserved
-loop-i-preserved c = (
-  omega arith,
-  λ n le h.
-      let turn = left-turn c.args.rows.now c.args.at c.args.mask c.args.truths n c.loop-i.i _ _ c.value_fits.result c.loop-i-test.true h
-      (omega arith) c.known.ensures c.known-in-loop-i.ensures c.value_fits.ensures in
-      c.loop-i.invariant.1 n le h ∙ (rw c.if-not-value_fits.false at turn),
-)
-
 pub returns : goal.returns
+unfolding row_of
 returns c n le h =
-    sym (c.loop-i.invariant.1 n le h ∙ left_none c.args.rows.now c.args.at c.args.mask c.args.truths n c.loop-i.i c.loop-i-test.false)
+    let a = c.args in
+    all_from_yields_List (fits_at a.truths a.mask (row_of a.row.now).values) _ _ c.all.result c.all.ensures.ran (YieldsList-from_range 0 6 6 refl refl)
+    (λ x b q k. search (rules, tests, to_z-of_z))
+    ∙ all_fit a.truths a.mask n (row_of a.row.now).values h 6 0

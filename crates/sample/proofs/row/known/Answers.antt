@@ -1,4 +1,4 @@
--- `known` meets its contract: it computes the rules' `bit`.
+-- `sample::row::known` meets its contract: it computes the rules' `bit`.
 use mathlib.Core.Path.{refl}
 use Rattle.rules.specs.Rows.{bit}
 use Rattle.sample.proofs.row.known.Goals as goal

@@ -1,24 +1,15 @@
--- `constraint::cons::Cons::left_set` meets its contract. The loop's invariant: the set, with those to come, holds them all.
-use mathlib.Core.Path.{◌≡◌}
-use native.Mathlib.Omega.{arith}
+-- `constraint::cons::Cons::left_set` meets its contract: after each left sample the set holds those so far.
+use Rattle.std.proofs.Common.{rules}
+use Rattle.std.proofs.lemmas.Fn.{fold_over, fronts}
+use Rattle.std.proofs.lemmas.Iterator.{YieldsList-from_slice}
 use Rattle.constraint.specs.Numbered.{numbers_of}
-use Rattle.constraint.proofs.Numbers.{gather_next, none_gathered, all_gathered}
+use Rattle.constraint.proofs.Numbers.{Gathers, gathers_none, gathers_one_more}
 use Rattle.constraint.proofs.cons.Cons.left_set.Goals as goal
 
-pub loop-i-init : goal.loop-i-init
-unfolding numbers_of
-loop-i-init c = (omega arith, none_gathered c.empty-out.result _ c.empty-out.ensures)
-
-pub loop-i-preserved : goal.loop-i-preserved
-loop-i-preserved c =
-    let a = c.args in (
-      omega arith,
-      gather_next a.self.left c.loop-i.i a.self.n _ (omega arith) (omega arith) c.loop-i.out c.with-out.result _ _
-          c.at.ensures c.with-out.ensures c.loop-i.invariant.1,
-    )
-
 pub returns : goal.returns
+unfolding numbers_of
 returns c =
-    let a = c.args in
-    let last : c.loop-i.i ≡ a.self.n = omega arith in
-    all_gathered c.loop-i.out a.self.n a.self.left _ (rw last at c.loop-i.invariant.1)
+    let s = c.iter.result in
+    let gives = YieldsList-from_slice {s = s} c.args.self.now.left.items cc in
+    fold_over fronts _ _ Gathers _ (λ l out q r f so_far k. (gathers_one_more l out r q.now (search rules) so_far (search rules), search rules)) s _ _ _
+    gives.runs (gathers_none _ c.empty.ensures) c.fold.ensures.ran

@@ -1,16 +1,17 @@
--- `Declared::none` meets its contract: both arrays hold 16 zeros.
-use mathlib.Core.Path.{refl}
-use Prim.Native.Nat.{ℕ, zero, suc, ◌≤◌}
-use native.Mathlib.Omega.{arith}
-use lib.ListN.{get_or, replicate}
-use Rattle.sample.specs.Declarations.{declared_of}
+-- `sample::declared::Declared::none` meets its contract: each of the 16 signatures has no position.
+use Rattle.std.proofs.Common.{refl, arith, ◌≤◌, get_or, replicate, ℕ, zero, suc}
+use Rattle.sample.specs.declared.declared.Signature.{Signature}
+use Rattle.sample.specs.Declarations.{declared_of, declared_from, positions_of, signature_of}
 use Rattle.sample.proofs.declared.Declared.none.Goals as goal
 
-zeros : (n p : ℕ) → get_or (replicate n 0) p 0 ≤ 6
-zeros zero p = omega arith
-zeros (suc n) zero = omega arith
-zeros (suc n) (suc p) = zeros n p
+abbrev unused : Signature
+unused = record { positions = 0; truths = 0 }
+
+no_position : (n p : ℕ) → (get_or (replicate n unused) p unused).positions ≤ 6
+no_position zero p = omega arith
+no_position (suc n) zero = omega arith
+no_position (suc n) (suc p) = no_position n p
 
 pub returns : goal.returns
-unfolding declared_of
-returns c = (record { few = omega arith; positions_length = refl; truths_length = refl; positions = zeros 16 }, refl)
+unfolding declared_of declared_from positions_of signature_of
+returns c = (record { few = omega arith; room = refl; positions = no_position 16 }, refl)

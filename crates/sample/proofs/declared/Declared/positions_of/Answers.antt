@@ -1,8 +1,8 @@
--- `Declared::positions_of` meets its contract.
-use mathlib.Core.Path.{◌∙◌}
-use Rattle.sample.specs.Declarations.{positions_of}
+-- `sample::declared::Declared::positions_of` meets its contract: both conversions keep the number.
+use Rattle.std.proofs.Common.{rules}
+use Rattle.sample.specs.Declarations.{positions_of, signature_of}
 use Rattle.sample.proofs.declared.Declared.positions_of.Goals as goal
 
 pub returns : goal.returns
-unfolding positions_of
-returns c = c.wide.ensures ∙ (rw c.at-i.ensures.0)
+unfolding positions_of signature_of
+returns c = search rules

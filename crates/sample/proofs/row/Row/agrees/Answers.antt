@@ -1,34 +1,24 @@
--- `Row::agrees` meets its contract. The loop's invariant: the answer over the six positions is that over the ones left.
-use mathlib.Core.Path.{refl, sym, ◌∙◌}
-use mathlib.Core.Bool.{true, false}
-use native.Mathlib.Omega.{arith}
-use Rattle.sample.proofs.Pairwise.{agreeing}
-use Rattle.sample.proofs.Compared.{one_turn, at_last, other_predicate, same_predicate}
+-- `sample::row::Row::agrees` meets its contract: by predicate, then by the test at each of the six positions.
+use Rattle.std.proofs.Common.{◌≡◌, true, false, refl, ◌∙◌, rules, of_calls}
+use lib.Dec.{eqb}
+use Rattle.std.proofs.lemmas.Iterator.{YieldsList-from_range}
+use Rattle.std.proofs.lemmas.Iterator.Search.{all_from_yields_List}
+use Rattle.sample.proofs.Positions.{position_at}
+use Rattle.sample.proofs.Compared.{all_from, back, agrees_of_rows}
 use Rattle.sample.proofs.row.Row.agrees.Goals as goal
-
-pub returns-then-self-b : goal.returns-then-self-b
-returns-then-self-b c = λ of p q. other_predicate c.args.way _ _ of p q c.if-self-b.true
-
-pub loop-i-init : goal.loop-i-init
-loop-i-init c = (omega arith, refl)
-
-pub returns-then-not-agrees_one : goal.returns-then-not-agrees_one
-returns-then-not-agrees_one c =
-    let a = c.args in
-    let turn = c.loop-i.invariant.1
-    ∙ one_turn (agreeing a.way) a.self a.b c.loop-i.i _ _ false (omega arith) c.known.ensures c.known-in-loop-i.ensures
-    (omega arith) (omega arith) (sym c.if-not-agrees_one.true ∙ c.agrees_one.ensures) in
-    λ of p q. same_predicate a.way a.self a.b of p q c.if-self-b.false false turn
-
-pub loop-i-preserved : goal.loop-i-preserved
-loop-i-preserved c =
-    let a = c.args in
-    let turn = c.loop-i.invariant.1
-    ∙ one_turn (agreeing a.way) a.self a.b c.loop-i.i _ _ true (omega arith) c.known.ensures c.known-in-loop-i.ensures
-    (omega arith) (omega arith) (sym c.if-not-agrees_one.false ∙ c.agrees_one.ensures) in
-    (omega arith, turn)
+use Rattle.sample.proofs.row.Row.agrees.Goals.{then-eq, else-eq}
 
 pub returns : goal.returns
-returns c =
-    let a = c.args in
-    λ of p q. same_predicate a.way a.self a.b of p q c.if-self-b.false true (c.loop-i.invariant.1 ∙ at_last (agreeing a.way) a.self a.b c.loop-i.i (omega arith))
+returns g c = λ test computes unknown of p q.
+    let a = c.args.self in
+    let b = c.args.b in
+    let whole = agrees_of_rows test unknown a b of p q in
+    elim c.if-eq.branch [
+      | then-eq w ↦
+          let same : eqb a.pred.0 b.pred.0 ≡ true = search rules in
+          let asked = all_from_yields_List (λ i. test (position_at a.mask a.v i) (position_at b.mask b.v i)) _ _ w.all.result w.all.ensures.ran (YieldsList-from_range 0 6 6 refl refl) (λ x r s k. search (rules, of_calls, computes, back)) in
+          w.result-is ∙ (asked ∙ (all_from test a b 6 0 ∙ (rw same at whole)))
+      | else-eq w ↦
+          let other : eqb a.pred.0 b.pred.0 ≡ false = search rules in
+          w.result-is ∙ (c.eq.ensures ∙ (other ∙ (rw other at whole)))
+    ]

@@ -1,4 +1,4 @@
--- `Row::single` meets its contract: one position or fewer is not single, else the count of ones decides.
+-- `sample::row::Row::single` meets its contract: one position or fewer is not single, else the count of ones decides.
 use mathlib.Core.Path.{◌∙◌}
 use borrow.Author.Tests.{lt-ltb, le-ltb}
 use Rattle.sample.proofs.ShownRows.{shown-single}

@@ -1,16 +1,18 @@
--- `words::set::Set::count` meets its contract: the members are the bits of the four words, so that the sums fit.
+-- `words::set::Set::count` meets its contract: a word's members after those before it, at most 256 in all.
+use Prim.Native.Nat.{◌+◌, ◌*◌}
 use native.Mathlib.Omega.{arith}
-use Rattle.words.proofs.FourWords.{count_words, words_fit}
+use Rattle.words.specs.Sets.{in_set}
+use Rattle.words.proofs.Counting.{count_le}
+use Rattle.words.proofs.FourWords.{count_none, count_more}
 use Rattle.words.proofs.set.Set.count.Goals as goal
 
-pub overflow_add-result : goal.overflow_add-result
-overflow_add-result c = omega (arith, words_fit c.args.self)
+pub loop-w-init : goal.loop-w-init
+loop-w-init c = omega (arith, count_none c.args.self)
 
-pub overflow_add-result-2 : goal.overflow_add-result-2
-overflow_add-result-2 c = omega (arith, words_fit c.args.self)
+pub overflow_add-n : goal.overflow_add-n
+overflow_add-n c =
+    let s = c.args.self in
+    omega (arith, count_more s c.loop-w.w-index (omega arith), count_le (in_set s) (64 * (c.loop-w.w-index + 1)))
 
-pub overflow_add-result-3 : goal.overflow_add-result-3
-overflow_add-result-3 c = omega (arith, words_fit c.args.self)
-
-pub returns : goal.returns
-returns c = omega (arith, count_words c.args.self)
+pub loop-w-preserved : goal.loop-w-preserved
+loop-w-preserved c = omega (arith, count_more c.args.self c.loop-w.w-index (omega arith))

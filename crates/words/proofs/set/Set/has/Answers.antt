@@ -4,9 +4,4 @@ use Rattle.words.proofs.set.Set.has.Goals as goal
 
 pub returns : goal.returns
 unfolding in_set
-returns c = rw c.word.ensures at c.bit_in.ensures
-
--- TODO
--- -- goal bit-in-requires is gone
--- bit-in-requires : tie.Need-bit-in-requires
--- bit-in-requires c κs = search rules
+returns c = rw (c.word.ensures, c.from.ensures) at c.bit_in.ensures

@@ -1,0 +1,7 @@
+-- `pool::pool::Pool::forgets` meets its contract: what is left of the set are its samples of the other predicates.
+use Rattle.pool.proofs.Named.{forgotten}
+use Rattle.pool.proofs.pool.Pool.forgets.Goals as goal
+
+pub returns : goal.returns
+returns c = λ positions ok.
+    forgotten positions _ _ _ _ c.args.set c.naming.result c.minus.result ok (c.naming.ensures positions ok) c.minus.ensures
