@@ -1,3 +1,4 @@
+-- Document 01 as definitions, each file after those that it uses; docs/ARCHITECTURE.md lists them in 01's order.
 pub mod Sizes
 pub mod Values
 pub mod Samples

@@ -1,4 +1,4 @@
--- Values and sorts. Of a value the rules ask three things and no more: whether two are equal, which of two is the lower, and whether one is valid for a sort.
+-- Values and sorts. Of a value the rules on samples ask three things and no more: whether two are equal, which of two is the lower, and whether one is valid for a sort.
 use Rattle.std.specs.Prelude.{Bool, true, false, ◌||◌, ℕ, zero, suc, ◌^◌, ℤ, pos, negsuc, eqb, ltb}
 use Rattle.std.proofs.Math.Option.{Option, none, some}
 

@@ -71,26 +71,25 @@ slice_cmp-rank_all [] (y ∷ ys) = refl
 slice_cmp-rank_all (x ∷ xs) [] = refl
 slice_cmp-rank_all (x ∷ xs) (y ∷ ys) = rw (option_cmp-rank_at x y, slice_cmp-rank_all xs ys) (sym (rank_laws.at_first x y xs ys))
 
+-- A test of two lists that goes by turns is the one by its test of two positions.
+module _ (one : Position → Position → Bool) (all : List Position → List Position → Bool)
+    (at_end : all [] [] ≡ true) (left_ends : (y : Position) (ys : List Position) → all [] (y ∷ ys) ≡ false) (right_ends : (x : Position) (xs : List Position) → all (x ∷ xs) [] ≡ false)
+    (turn : (x y : Position) (xs ys : List Position) → all (x ∷ xs) (y ∷ ys) ≡ (one x y && all xs ys)) where
+  by_turns : (xs ys : List Position) → all xs ys ≡ agrees_all one xs ys
+  unfolding agrees_all
+  by_turns [] [] = at_end
+  by_turns [] (y ∷ ys) = left_ends y ys
+  by_turns (x ∷ xs) [] = right_ends x xs
+  by_turns (x ∷ xs) (y ∷ ys) = turn x y xs ys ∙ ap (λ b. one x y && b) (by_turns xs ys)
+
 -- Covering and overlapping are such ways to agree.
 pub covers-agrees : (s t : Sample) → covers s t ≡ agrees covers_at s t
 unfolding covers agrees
-covers-agrees s t = ap (λ b. eqb s.pred t.pred && b) (go s.at t.at)
-  where
-    go : (xs ys : List Position) → covers_all xs ys ≡ agrees_all covers_at xs ys
-    go [] [] = refl
-    go [] (y ∷ ys) = refl
-    go (x ∷ xs) [] = refl
-    go (x ∷ xs) (y ∷ ys) = ap (λ b. covers_at x y && b) (go xs ys)
+covers-agrees s t = ap (λ b. eqb s.pred t.pred && b) (by_turns covers_at covers_all refl (λ y ys. refl) (λ x xs. refl) (λ x y xs ys. refl) s.at t.at)
 
 pub overlaps-agrees : (s t : Sample) → overlaps s t ≡ agrees overlaps_at s t
 unfolding overlaps agrees
-overlaps-agrees s t = ap (λ b. eqb s.pred t.pred && b) (go s.at t.at)
-  where
-    go : (xs ys : List Position) → overlaps_all xs ys ≡ agrees_all overlaps_at xs ys
-    go [] [] = refl
-    go [] (y ∷ ys) = refl
-    go (x ∷ xs) [] = refl
-    go (x ∷ xs) (y ∷ ys) = ap (λ b. overlaps_at x y && b) (go xs ys)
+overlaps-agrees s t = ap (λ b. eqb s.pred t.pred && b) (by_turns overlaps_at overlaps_all refl (λ y ys. refl) (λ x xs. refl) (λ x y xs ys. refl) s.at t.at)
 
 -- Two rows by predicate, then by their six positions.
 pub rank_of_rows : (a b : Row) (of : ℕ → ℕ) → RowOk of a → RowOk of b
