@@ -6,20 +6,10 @@ use native.Mathlib.Nat.{pow-suc}
 use native.Mathlib.Omega.{arith}
 use lib.Dec.{eqb}
 use lib.Count.{ones, ones_step, ones-le}
-use Rattle.std.proofs.lemmas.Nat.Bits.{bit_at_lowest, bit_at-suc}
 use Rattle.rules.specs.Rows.{bit}
 use Rattle.rules.specs.Contents.{count_if}
 use Rattle.words.specs.Sets.{count_of}
-use Rattle.words.proofs.Bits.{by_digit}
-
--- The first bit, and the later ones as those of the half.
-bit_first : (x : ℕ) → bit x 0 ≡ eqb (x % 2) 1
-unfolding bit
-bit_first x = rw (bit_at_lowest x)
-
-bit_later : (x i : ℕ) → bit x (suc i) ≡ bit (x / 2) i
-unfolding bit
-bit_later x i = rw (bit_at-suc x i)
+use Rattle.words.proofs.Bits.{bit_first, bit_later, by_digit}
 
 count_if_sum : (b : Bool) (m n : ℕ) → count_if b (m + n) ≡ m + count_if b n
 unfolding count_if

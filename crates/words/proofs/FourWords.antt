@@ -82,7 +82,7 @@ one_bit_put f r s k w x keep old changed put n l = go (eqb (n / 64) (k / 64)) re
         rw (kept, number) (sym (keep (bit (word_at s (n / 64)) (n % 64))))
 
 -- Past the four words there is nothing.
-word_past : (s : Set) (j : ℕ) → 4 ≤ j → word_at s j ≡ 0
+pub word_past : (s : Set) (j : ℕ) → 4 ≤ j → word_at s j ≡ 0
 unfolding word_at
 word_past s j h = get_or_past (take 4 s.words) j 0 (omega (arith, length-take 4 s.words))
 
@@ -106,7 +106,7 @@ no_word s h k l = rw (h (k / 64) (omega arith), bit_of_zero (k % 64))
 -- A word that is not 0 has a member.
 pub member : (s : Set) (j : ℕ) → j < 4 → word_at s j < 2 ^ 64 → (word_at s j ≡ 0 → ⊥) → (k : ℕ) × (k < 256) × (in_set s k ≡ true)
 member s j h fits n =
-    let i = some_bit (word_at s j) fits n in (64 * j + i.0, omega (arith, i.1), in_word s j i.0 i.1 ∙ i.2)
+    let i = some_bit 64 (word_at s j) fits n in (64 * j + i.0, omega (arith, i.1), in_word s j i.0 i.1 ∙ i.2)
 
 -- The members below a word's end: those before the word, and its bits.
 pub count_word : (s : Set) (j : ℕ) → count_of (in_set s) (64 * j + 64) ≡ count_of (in_set s) (64 * j) + count_of (bit (word_at s j)) 64
@@ -170,5 +170,5 @@ emptiness s first second third last = go (eqb all 0) refl
     }
     go false e = record {
       none = λ r. both r refl;
-      some = λ r. let i = some_bit all fits (eqb-false all 0 e) in found i.0 i.1 (sym (bits i.0) ∙ i.2);
+      some = λ r. let i = some_bit 64 all fits (eqb-false all 0 e) in found i.0 i.1 (sym (bits i.0) ∙ i.2);
     }

@@ -13,6 +13,7 @@ pub struct Set {
 
 impl Set {
     #[tactic(auto, unfolding(crate::specs::Sets::word_at), using(crate::proofs::FourWords::no_word))]
+    #[inline]
     pub fn empty() -> Set
         ensures { Holds result (λ k. false) }
     {
@@ -20,6 +21,7 @@ impl Set {
     }
 
     #[tactic(auto, using(crate::proofs::FourWords::word_read))]
+    #[inline]
     pub fn word(self, j: usize) -> u64
         requires { j < 4 }
         ensures { result ≡ word_at self j }
@@ -27,22 +29,26 @@ impl Set {
         self.words[j]
     }
 
-    // The set with x for its word j.
-    #[tactic(auto, using(crate::proofs::FourWords::put_word))]
+    // The set with x for its word j. Each word is chosen, since one that is written at a computed place is slow to read again.
+    #[tactic(auto, unfolding(crate::specs::Sets::word_at), using(crate::proofs::FourWords::word_read))]
+    #[inline]
     pub fn put(mut self, j: usize, x: u64) -> Set
         requires { j < 4 }
         ensures { (i : ℕ) → i < 4 → word_at result i ≡ cond (eqb i j) x (word_at self i) }
     {
-        self.words[j] = x;
+        let words = self.words;
+        self.words = array::from_fn(|i| if i == j { x } else { words[i] });
         self
     }
 
+    #[inline]
     pub fn has(self, k: u8) -> bool
         ensures { result ≡ in_set self k }
     {
         bit_in(self.word(usize::from(k / 64)), k % 64)
     }
 
+    #[inline]
     pub fn with(self, k: u8) -> Set
         ensures { Holds result (λ j. eqb j k || in_set self j) }
     {
@@ -50,6 +56,7 @@ impl Set {
         self.put(j, self.word(j) | one_bit(k % 64))
     }
 
+    #[inline]
     pub fn without(self, k: u8) -> Set
         ensures { Holds result (λ j. not (eqb j k) && in_set self j) }
     {
@@ -58,6 +65,7 @@ impl Set {
     }
 
     // Each word of the set with the same word of the other, by f.
+    #[inline]
     fn each_word<F: Fn(u64, u64) -> u64>(self, s: Set, f: F) -> Set
         requires { F.IsAlwaysCallable f }
         ensures { (j : ℕ) → j < 4 → F.post f (slice_index self.words j) (slice_index s.words j) (slice_index result.words j) }
@@ -67,18 +75,21 @@ impl Set {
         }
     }
 
+    #[inline]
     pub fn minus(self, s: Set) -> Set
         ensures { Holds result (λ k. in_set self k && not (in_set s k)) }
     {
         self.each_word(s, less)
     }
 
+    #[inline]
     pub fn join(self, s: Set) -> Set
         ensures { Holds result (λ k. in_set self k || in_set s k) }
     {
         self.each_word(s, either)
     }
 
+    #[inline]
     pub fn meet(self, s: Set) -> Set
         ensures { Holds result (λ k. in_set self k && in_set s k) }
     {
@@ -87,6 +98,7 @@ impl Set {
 
     // One test of the four words together, not four comparisons: a draw asks it at every turn.
     #[tactic(auto, using(crate::proofs::FourWords::emptiness))]
+    #[inline]
     pub fn is_empty(self) -> bool
         ensures { Emptiness self result }
     {

@@ -3,6 +3,7 @@ ghost use Rattle.std.specs.Prelude.{◌≡◌, ◌<◌, eqb, ◌&&◌, ◌||◌,
 ghost use Rattle.rules.specs.Rows.{bit};
 ghost use Rattle.words.specs.Sets.{Bits, count_of};
 
+#[inline]
 pub fn bit_in(x: u64, i: u8) -> bool
     requires { i < 64 }
     ensures { result ≡ bit x i }
@@ -10,7 +11,7 @@ pub fn bit_in(x: u64, i: u8) -> bool
     (x >> i) % 2 == 1
 }
 
-#[tactic(auto, using(crate::proofs::Bits::bit_of_shift))]
+#[inline]
 pub fn one_bit(i: u8) -> u64
     requires { i < 64 }
     ensures { Bits result (λ j. eqb j i) }
@@ -20,6 +21,7 @@ pub fn one_bit(i: u8) -> u64
 
 // The bits of x that are not in y.
 #[tactic(auto, using(crate::proofs::Bits::bits_less))]
+#[inline]
 pub fn less(x: u64, y: u64) -> u64
     ensures { Bits result (λ i. bit x i && not (bit y i)) }
 {
@@ -27,6 +29,7 @@ pub fn less(x: u64, y: u64) -> u64
 }
 
 #[tactic(auto, using(crate::proofs::Bits::bit_or_by_bit))]
+#[inline]
 pub fn either(x: u64, y: u64) -> u64
     ensures { Bits result (λ i. bit x i || bit y i) }
 {
@@ -34,6 +37,7 @@ pub fn either(x: u64, y: u64) -> u64
 }
 
 #[tactic(auto, using(crate::proofs::Bits::bit_and_by_bit))]
+#[inline]
 pub fn both(x: u64, y: u64) -> u64
     ensures { Bits result (λ i. bit x i && bit y i) }
 {
@@ -41,6 +45,7 @@ pub fn both(x: u64, y: u64) -> u64
 }
 
 // The cast stays: there is no `usize::from` of a `u32`, and a `try_from` would need an answer for a case that never comes.
+#[inline]
 pub fn ones(x: u64) -> usize
     ensures { result ≡ count_of (bit x) 64 }
 {
