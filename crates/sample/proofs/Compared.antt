@@ -48,7 +48,7 @@ neither_lower m n = go (ltb m n) (ltb n m) refl refl
     go false true e f = let l : n < m = ltb-true n m f in sym (ne_eqb m n (λ h. omega arith))
     go false false e f = let h : n ≤ m = ltb-false m n e in let l : m ≤ n = ltb-false n m f in sym (eq-eqb m n (omega arith))
 
-int_eq-equal_value : (x y : ℤ) → int_eq x y ≡ equal_value x y
+pub int_eq-equal_value : (x y : ℤ) → int_eq x y ≡ equal_value x y
 unfolding equal_value
 int_eq-equal_value (pos m) (pos n) = neither_lower m n
 int_eq-equal_value (pos m) (negsuc n) = refl

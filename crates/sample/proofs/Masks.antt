@@ -7,14 +7,23 @@ use native.Mathlib.Omega.{arith}
 use lib.IntN.{ℤ, pos, negsuc}
 use lib.Dec.{eqb}
 use lib.Pow.{pow_pos}
-use lib.Signed.{shr_z, rem_z}
+use lib.Signed.{shr_z, rem_z, mag_shr}
 use mir.Syntax.{w64}
-use mir.Val.{of_z}
+use mir.Val.{of_z, SFits}
+use mir.Facts.{to_z-of_z}
 use Rattle.std.specs.Int.{bit_at}
 use Rattle.std.proofs.lemmas.Bool.Decides.{nat_tests}
 use Rattle.std.proofs.lemmas.Nat.Bits.{bit_at_lowest, bit_at-suc, bit_at_cat_low}
 use Rattle.rules.specs.Rows.{bit}
 use Rattle.rules.specs.Classifying.{low_bits}
+use Rattle.sample.proofs.Signed.{read_back}
+
+-- A shifted value fits as the value does, so that it is read back as it is.
+shift_fits : (z : ℤ) (m : ℕ) → SFits w64 z → SFits w64 (shr_z z m)
+shift_fits z m f = record { sfits = omega (arith, mag_shr z m, f.sfits) }
+
+pub shifted : (mask : ℤ) (m : ℕ) → SFits w64 mask → read_back (shr_z (read_back mask) m) ≡ shr_z mask m
+shifted mask m f = rw (to_z-of_z f) (to_z-of_z (shift_fits mask m f))
 
 -- Cutting off the bits from n on changes none below, and turning all of n bits over turns each over.
 kept : (m n i : ℕ) → i < n → bit_at (m % 2 ^ n) i ≡ bit_at m i

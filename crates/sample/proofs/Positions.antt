@@ -1,9 +1,9 @@
 -- The positions of a row one by one: the next one, those past the mask, how many there are, how many are known, and the mask and values that they give back.
 use mathlib.Core.Path.{◌≡◌, refl, sym, ap, ◌∙◌}
 use mathlib.Core.Bool.{Bool, true, false, cond}
-use mathlib.Core.List.{List, ◌∷◌, map}
+use mathlib.Core.List.{List, [], ◌∷◌, map}
 use mathlib.Core.Option.{none}
-use Prim.Native.Nat.{ℕ, zero, suc, ◌+◌, ◌/◌, ◌%◌, ◌^◌, ◌≤◌, ◌<◌}
+use Prim.Native.Nat.{ℕ, zero, suc, ◌+◌, ◌-◌, ◌/◌, ◌%◌, ◌^◌, ◌≤◌, ◌<◌}
 use native.Mathlib.Nat.{div-eq_of_lt, lt_of_lt_of_le, mod-lt, zero-lt-suc, div-add-mod'}
 use native.Mathlib.Numerals.{add-one}
 use native.Mathlib.Omega.{arith}
@@ -23,6 +23,11 @@ use Rattle.sample.specs.Options.{to_code}
 -- Position i of a row with this mask and these values.
 abbrev pub position_at : ℕ → List Value → ℕ → Position
 position_at mask values i = position (bit mask i) (get_or values i blank)
+
+-- Past the last position there is none.
+pub no_position : (mask : ℕ) (values : List Value) (n i : ℕ) → n ≤ i → positions_from mask values (n - i) i ≡ []
+unfolding positions_from
+no_position mask values n i h = let e : n - i ≡ 0 = omega arith in rw e
 
 -- A mask of n positions has no bit past them.
 pub bit_past : (mask n i : ℕ) → mask < 2 ^ n → n ≤ i → bit mask i ≡ false

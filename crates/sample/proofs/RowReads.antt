@@ -18,7 +18,7 @@ use Rattle.sample.specs.Rows.{shown, RowOk}
 use Rattle.sample.specs.Declarations.{sorts_of, declared_of, positions_of, DeclaredOk}
 use Rattle.sample.specs.Tests.{ReadsRow}
 use Rattle.sample.proofs.Fitting.{fit_blank}
-use Rattle.sample.proofs.RowTests.{declared_below, declared_past, sorts_of-length, not_declared, passed}
+use Rattle.sample.proofs.RowTests.{declared_below, declared_past, sorts_of-length, not_declared, passed_natural}
 
 -- A predicate or mask number that is not below 0.
 pub natural_read : (x : ℤ) → non_neg x ≡ true → (n : ℕ) × (x ≡ pos n)
@@ -39,7 +39,7 @@ module _ (numbers : List ℤ) (r : Row) (p m : ℕ) (is_p : get_or numbers 0 (po
   same_pred = pred ∙ mod-eq_of_lt (omega (arith, is_below, ok.few))
 
   tested : (m < 2 ^ positions_of d p) × (values_fit (sorts_of d p) m (row_of numbers).values 6 0 ≡ true)
-  tested = passed numbers d p declared m is_m none_refused
+  tested = passed_natural numbers d p declared m is_m none_refused
 
   same_mask : r.mask ≡ m
   same_mask = mask ∙ mod-eq_of_lt (let less : 2 ^ positions_of d p ≤ 64 = pow_mono (ok.positions p) in omega (arith, tested.0))

@@ -7,7 +7,6 @@ use Prim.Native.Nat.{ℕ, ◌^◌, ◌≤◌, ◌<◌}
 use native.Mathlib.Nat.{zero-add}
 use native.Mathlib.Omega.{arith}
 use lib.IntN.{ℤ, pos}
-use lib.Dec.{ltb}
 use lib.ListN.{length, get_or}
 use Rattle.std.proofs.lemmas.Bool.Decides.{nat_tests}
 use Rattle.rules.specs.Values.{Sort}
@@ -53,11 +52,23 @@ module _ (numbers : List ℤ) where
     unfolding row_refusal field_refusal row_of mask_fits natural first_of when or_else
     refused_values m fit is_m below h = rw (declared, sorts_of-length d q, is_m) (grind (arith, nat_tests))
 
-    pub passed : (m : ℕ) → get_or numbers 1 (pos 0) ≡ pos m → row_refusal (declared_of d) (row_of numbers) ≡ none
-        → (m < 2 ^ positions_of d q) × (values_fit (sorts_of d q) m (row_of numbers).values 6 0 ≡ true)
-    unfolding row_refusal field_refusal row_of mask_fits natural first_of when or_else
-    passed m is_m h = told (values_fit (sorts_of d q) m (row_of numbers).values 6 0) (rw (declared, sorts_of-length d q, is_m) at h)
+    -- Whatever number the mask is.
+    pub passed : row_refusal (declared_of d) (row_of numbers) ≡ none
+        → (mask_fits (positions_of d q) (get_or numbers 1 (pos 0)) ≡ true)
+        × (values_fit (sorts_of d q) (natural (get_or numbers 1 (pos 0))) (row_of numbers).values 6 0 ≡ true)
+    unfolding row_refusal field_refusal row_of first_of when or_else
+    passed h =
+        told
+        (mask_fits (positions_of d q) (get_or numbers 1 (pos 0)))
+        (values_fit (sorts_of d q) (natural (get_or numbers 1 (pos 0))) (row_of numbers).values 6 0)
+        (rw (declared, sorts_of-length d q) at h)
       where
-        told : (b : Bool) → first_of (when bad_mask (not (ltb m (2 ^ positions_of d q))) ∷ when bad_value (not b) ∷ []) ≡ none → (m < 2 ^ positions_of d q) × (b ≡ true)
-        told true e = (grind (arith, nat_tests), refl)
-        told false e = grind (arith, nat_tests)
+        told : (a b : Bool) → first_of (when bad_mask (not a) ∷ when bad_value (not b) ∷ []) ≡ none → (a ≡ true) × (b ≡ true)
+        told true true e = (refl, refl)
+        told true false e = grind arith
+        told false b e = grind arith
+
+    pub passed_natural : (m : ℕ) → get_or numbers 1 (pos 0) ≡ pos m → row_refusal (declared_of d) (row_of numbers) ≡ none
+        → (m < 2 ^ positions_of d q) × (values_fit (sorts_of d q) m (row_of numbers).values 6 0 ≡ true)
+    unfolding mask_fits natural
+    passed_natural m is_m h = let t = rw is_m at (passed h) in (grind (arith, nat_tests), t.1)

@@ -63,10 +63,17 @@ pub fn row_from(row: &[i64; 8]) -> Row
 }
 
 // Mask and six values. A list and a place, not an array of seven: every other number of the list stays as it was.
+// One by one: a `copy_from_slice` of so few asks first whether the two overlap.
 pub fn row_into(r: Row, out: &mut [i64], at: usize)
     requires { at + 7 ≤ length out.old }
     ensures { out.new ≡ written_at r at out.old }
 {
+    let [a, b, c, d, e, f] = r.v;
     out[at] = i64::from(r.mask);
-    out[at + 1..at + 7].copy_from_slice(&r.v);
+    out[at + 1] = a;
+    out[at + 2] = b;
+    out[at + 3] = c;
+    out[at + 4] = d;
+    out[at + 5] = e;
+    out[at + 6] = f;
 }

@@ -24,6 +24,7 @@ pub struct Row {
     pub v: [i64; 6],
 }
 
+#[inline]
 pub fn known(mask: u8, i: usize) -> bool
     requires { i < 8 }
     ensures { result ≡ bit mask i }
@@ -32,6 +33,7 @@ pub fn known(mask: u8, i: usize) -> bool
 }
 
 // At one position: an unknown one covers anything, a known one the same value.
+#[inline]
 pub fn covers_at(a: Option<i64>, b: Option<i64>) -> bool
     ensures { result ≡ rules.covers_at (to_rules a) (to_rules b) }
 {
@@ -42,18 +44,17 @@ pub fn covers_at(a: Option<i64>, b: Option<i64>) -> bool
     }
 }
 
-// At one position: unless both are known and different.
+// At one position: one alone is known, or the two are equal. A `match` that asks for both at once takes more time.
+#[inline]
 pub fn overlaps_at(a: Option<i64>, b: Option<i64>) -> bool
     ensures { result ≡ rules.overlaps_at (to_rules a) (to_rules b) }
 {
-    match (a, b) {
-        (Some(x), Some(y)) => x == y,
-        _ => true,
-    }
+    a.xor(b).is_some() || a == b
 }
 
 impl Row {
     // Position i, if it is known.
+    #[inline]
     fn position(self, i: usize) -> Option<i64>
         requires { i < 6 }
         ensures { result ≡ to_code (position (bit self.mask i) (slice_index_or self.v i (pos 0))) }
@@ -62,6 +63,7 @@ impl Row {
     }
 
     // The six positions, the unused ones unknown.
+    #[inline]
     fn positions(self) -> [Option<i64>; 6]
         ensures { result ≡ map to_code (positions_from self.mask self.v 6 0) }
     {
@@ -69,6 +71,7 @@ impl Row {
     }
 
     // Of one predicate, and the test passes at each position.
+    #[inline]
     fn agrees<F: Fn(Option<i64>, Option<i64>) -> bool>(self, b: Row, test: F) -> bool
         requires { F.IsAlwaysCallable test }
         ensures { (by : Position → Position → Bool) → Computes (F.post test) by → by (to_rules None) (to_rules None) ≡ true → (positions : ℕ → ℕ) → RowOk positions self → RowOk positions b → result ≡ agrees by (shown positions self) (shown positions b) }
@@ -81,12 +84,14 @@ impl Row {
             )
     }
 
+    #[inline]
     pub fn covers(self, b: Row) -> bool
         ensures { (positions : ℕ → ℕ) → RowOk positions self → RowOk positions b → result ≡ covers (shown positions self) (shown positions b) }
     {
         self.agrees(b, covers_at)
     }
 
+    #[inline]
     pub fn overlaps(self, b: Row) -> bool
         ensures { (positions : ℕ → ℕ) → RowOk positions self → RowOk positions b → result ≡ overlaps (shown positions self) (shown positions b) }
     {
