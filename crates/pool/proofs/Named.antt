@@ -20,6 +20,10 @@ module _ (positions : ℕ → ℕ) (t : Table) (n : ℕ) (order : List ℕ) (p :
   unfolding names shown
   names_at k = refl
 
+  -- So is that of another table's row, where the two are the same.
+  pub names_as : (rows : Table) (k : ℕ) → (row_at t k).pred.0 ≡ (row_at rows k).pred.0 → eqb (row_at rows k).pred.0 p ≡ names p (sample_at positions t k)
+  names_as rows k e = ap (λ (q : ℕ). eqb q p) (sym e) ∙ names_at k
+
   pub forgotten : (set gone out : Set) → PoolOk positions t n order → Naming positions t n order p gone → Holds out (λ k. in_set set k && not (in_set gone k))
       → Forgets positions t n order set p out
   forgotten set gone out ok those left = record {

@@ -83,15 +83,20 @@ pub record Naming (positions : ℕ → ℕ) (t : Table) (n : ℕ) (order : List 
   pub named : (k : ℕ) → Among k (in_use n order) → in_set r k ≡ names p (sample_at positions t k)
   pub within : Within n order r
 
+-- A table that has the predicates of the pool's rows at every number in use; masks and values may be others.
+abbrev pub SamePredicates : Pool → Table → Type 0
+SamePredicates p t = (k : ℕ) → Among k (used p) → (row_at t k).pred.0 ≡ (row_at p.rows k).pred.0
+
+-- Both are said of every table in order that has these predicates, the pool's own among them: the answer comes from the predicates alone.
 abbrev pub NamingIn : Pool → ℕ → Set → Type 0
-NamingIn p pred r = (positions : ℕ → ℕ) → InOrder positions p → Naming positions p.rows p.order.count p.order.numbers pred r
+NamingIn p pred r = (positions : ℕ → ℕ) (t : Table) → PoolOk positions t p.order.count p.order.numbers → SamePredicates p t → Naming positions t p.order.count p.order.numbers pred r
 
 pub record Forgets (positions : ℕ → ℕ) (t : Table) (n : ℕ) (order : List ℕ) (set : Set) (p : ℕ) (r : Set) : Type 0 where
   pub is : members positions t n order r ≡ without (names p) (members positions t n order set)
   pub within : Within n order set → Within n order r
 
 abbrev pub ForgetsIn : Pool → Set → ℕ → Set → Type 0
-ForgetsIn p set pred r = (positions : ℕ → ℕ) → InOrder positions p → Forgets positions p.rows p.order.count p.order.numbers set pred r
+ForgetsIn p set pred r = (positions : ℕ → ℕ) (t : Table) → PoolOk positions t p.order.count p.order.numbers → SamePredicates p t → Forgets positions t p.order.count p.order.numbers set pred r
 
 -- The first number of the order that is in the set.
 unfoldable pub first_no : Option SampleNo → RuleOption ℕ

@@ -16,6 +16,7 @@ impl Pool {
     ghost use Rattle.std.specs.Prelude.{◌≡◌};
     ghost use Rattle.pool.specs.Answers.{CoversNo, CoveredIn, IsBelow, WaitsIn, KeepsIn, NamingIn, ForgetsIn};
 
+    #[inline]
     fn covers(&self, a: SampleNo, b: SampleNo) -> bool
         ensures { CoversNo self.now a.0 b.0 result }
     {

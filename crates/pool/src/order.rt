@@ -15,7 +15,7 @@ pub struct Order {
 }
 
 impl Order {
-    ghost use Rattle.std.specs.Prelude.{◌≡◌, ℕ, ◌+◌, ◌≤◌, ◌<◌, not, length, get_or, IsTrue, IsFalse};
+    ghost use Rattle.std.specs.Prelude.{◌≡◌, ℕ, ◌+◌, ◌≤◌, ◌<◌, length, get_or};
     ghost use Rattle.words.specs.Sets.{in_set};
     ghost use Rattle.sample.specs.Options.{to_rules};
     ghost use Rattle.pool.specs.Picks.{keep_if, first_of, Among};
@@ -23,6 +23,7 @@ impl Order {
     ghost use Rattle.pool.specs.Answers.{first_no, opened, closed};
 
     // The numbers in use.
+    #[inline]
     pub fn in_use(&self) -> &[u8]
         ensures { result.now ≡ in_use self.now.count self.now.numbers }
     {
@@ -41,6 +42,7 @@ impl Order {
     }
 
     // The numbers in use that pass the test, as a set. A loop, not `fold`: what the caller's test promises is told number by number.
+    #[inline]
     pub fn select<F: Fn(SampleNo) -> bool>(&self, test: F) -> Set
         requires { F.IsAlwaysCallable test }
         ensures passed { (k : ℕ) → Among k (in_use self.now.count self.now.numbers) → F.post test (record { 0 = k }) (in_set result k) }
@@ -73,25 +75,19 @@ impl Order {
         ensures numbers { self.new.numbers ≡ closed self.old.count (in_set held) self.old.numbers }
         ensures count { self.new.count ≡ length (keep_if (in_set held) (in_use self.old.count self.old.numbers)) }
     {
-        let staying = self.parted(held, true);
-        let leaving = self.parted(held, false);
-        let kept = staying.len();
-        let mut numbers = self.numbers;
-        numbers[..kept].copy_from_slice(staying.as_slice());
-        numbers[kept..self.count].copy_from_slice(leaving.as_slice());
-        self.numbers = numbers;
+        let mut leaving = ArrayVec::<u8, 256>::new();
+        let mut kept = 0;
+        for i in 0..self.count {
+            let k = self.numbers[i];
+            let stays = held.has(k);
+            if stays {
+                self.numbers[kept] = k;
+                kept += 1;
+            } else {
+                leaving.push(k);
+            }
+        }
+        self.numbers[kept..self.count].copy_from_slice(leaving.as_slice());
         self.count = kept;
-    }
-
-    // The numbers in use that are in the set, or those that are not, in their order.
-    // Which of them by a bool: a test in its place would only say once more what `held` and `stays` say.
-    fn parted(&self, held: Set, stays: bool) -> ArrayVec<u8, 256>
-        ensures staying { IsTrue stays → result.items ≡ keep_if (in_set held) (in_use self.now.count self.now.numbers) }
-        ensures leaving { IsFalse stays → result.items ≡ keep_if (λ k. not (in_set held k)) (in_use self.now.count self.now.numbers) }
-    {
-        let mut part = ArrayVec::from(self.numbers);
-        part.truncate(self.count);
-        part.retain(|k| held.has(*k) == stays);
-        part
     }
 }

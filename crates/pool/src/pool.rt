@@ -19,6 +19,7 @@ impl Pool {
     ghost use Rattle.pool.specs.Answers.{Seeks};
 
     // A sample's row by its number.
+    #[inline]
     pub fn row(&self, s: SampleNo) -> Row
         ensures { result ≡ row_at self.now.rows s.0 }
     {

@@ -1,23 +1,21 @@
--- `pool::order::Order::close` meets its contract: those that stay and those that leave are as many as were in use, and take their places.
-use mathlib.Core.Path.{refl, ap}
-use Prim.Native.Nat.{ℕ}
-use native.Mathlib.Omega.{arith}
-use lib.ListN.{length, length-append, length-drop, length-take}
-use Rattle.pool.proofs.Shifts.{parted_lengths, closed_by_copy}
+-- `pool::order::Order::close` meets its contract: each number in turn joins those in front or those apart, and at the end these are put behind them.
+use Rattle.std.proofs.Common.{refl, sym, ◌∙◌, arith}
+use Rattle.pool.proofs.Shifts.{closing_none, closing_held, closing_gone, closing_count, closing_end}
 use Rattle.pool.proofs.order.Order.close.Goals as goal
+use Rattle.pool.proofs.order.Order.close.Goals.{then-stays, else-stays}
 
-pub slice_bounds-copy_from_slice-count : goal.slice_bounds-copy_from_slice-count
-slice_bounds-copy_from_slice-count c = omega (arith, parted_lengths _ _ _ _ _ (omega arith) (c.parted-staying.ensures.staying refl) (c.parted-leaving.ensures.leaving refl))
+pub loop-i-init : goal.loop-i-init
+loop-i-init c = (refl, closing_none _ _ _ c.new-leaving.ensures)
 
-pub slice_bounds-numbers-start : goal.slice_bounds-numbers-start
-slice_bounds-numbers-start c = omega (arith, parted_lengths _ _ _ _ _ (omega arith) (c.parted-staying.ensures.staying refl) (c.parted-leaving.ensures.leaving refl))
-
-pub copy_from_slice-requires-2 : goal.copy_from_slice-requires-2
-copy_from_slice-requires-2 c =
-    let e = parted_lengths _ _ _ _ _ (omega arith) (c.parted-staying.ensures.staying refl) (c.parted-leaving.ensures.leaving refl) in
-    omega (arith, length-append {A = ℕ}, length-drop {A = ℕ}, length-take {A = ℕ}, ap length c.as_slice-2.ensures.value, e)
+pub loop-i-preserved : goal.loop-i-preserved
+loop-i-preserved c =
+    elim c.if-stays.branch [
+      | then-stays w ↦ rw (w.self-is, w.leaving-is, w.kept-is) (c.loop-i.invariant.0, closing_held (omega arith) c.loop-i.invariant.1 (sym c.has-stays.ensures ∙ w.if-stays.true))
+      | else-stays w ↦ rw (w.self-is, w.leaving-is, w.kept-is) (c.loop-i.invariant.0, closing_gone (omega arith) c.loop-i.invariant.1 w.push.ensures.items (sym c.has-stays.ensures ∙ w.if-stays.false))
+    ]
 
 pub returns-clause-numbers : goal.returns-clause-numbers
-returns-clause-numbers c =
-    rw (c.copy_from_slice.ensures.after, c.copy_from_slice-2.ensures.after, c.as_slice.ensures.value, c.as_slice-2.ensures.value)
-    (closed_by_copy _ _ _ _ _ (omega arith) (c.parted-staying.ensures.staying refl) (c.parted-leaving.ensures.leaving refl) c.len-kept.ensures.value)
+returns-clause-numbers c = rw c.loop-i.invariant.0 (closing_end (omega arith) (omega arith) c.loop-i.invariant.1 (c.copy_from_slice.ensures.after ∙ c.as_slice.ensures.value))
+
+pub returns-clause-count : goal.returns-clause-count
+returns-clause-count c = closing_count (omega arith) (omega arith) c.loop-i.invariant.1

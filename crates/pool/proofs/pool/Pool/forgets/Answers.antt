@@ -3,5 +3,5 @@ use Rattle.pool.proofs.Named.{forgotten}
 use Rattle.pool.proofs.pool.Pool.forgets.Goals as goal
 
 pub returns : goal.returns
-returns c = λ positions ok.
-    forgotten positions _ _ _ _ c.args.set c.naming.result c.minus.result ok (c.naming.ensures positions ok) c.minus.ensures
+returns c = λ positions t ok same.
+    forgotten positions t _ _ _ c.args.set c.naming.result c.minus.result ok (c.naming.ensures positions t ok same) c.minus.ensures
