@@ -1,5 +1,8 @@
 -- The numbers of a constraint's left samples, and of its right one: tests of them, and what passes, as lists and as sets.
-use Rattle.std.proofs.Common.{◌≡◌, ap, sym, ◌∙◌, refl, ℕ, ◌≤◌, ◌<◌, Bool, true, false, cond, not, ◌||◌, eqb, ltb, ltb-true, ltb-false, List, [], ◌∷◌, ◌++◌, filter, MatchOption, Option, Some, None, arith}
+use Rattle.std.proofs.Common.{◌≡◌, ap, sym, ◌∙◌, refl, ℕ, ◌≤◌, ◌<◌, Bool, true, false, cond, not, ◌||◌, zero, suc, eqb, ltb, ltb-true, ltb-false, List, [], ◌∷◌, ◌++◌, get_or, take, set, ◌+◌, length, add-one, MatchOption, Option, Some, None, arith}
+use Rattle.std.proofs.Math.Seq.{take-suc-set}
+use Rattle.std.proofs.lemmas.List.{take_more}
+use mathlib.Core.List.{append-nil}
 use Rattle.std.specs.Bool.{then_some}
 use Rattle.std.specs.List.{list_any}
 use Rattle.std.specs.Option.{option_eq}
@@ -17,14 +20,58 @@ unfolding any_no plain
 any_no-plain test [] = refl
 any_no-plain test (s ∷ l) = rw (any_no-plain test l)
 
-pub outside-plain : (test : ℕ → Bool) (l : List SampleNo) → outside test (plain l) ≡ plain (filter (λ s. not (test s.0)) l)
+plain_one_more : (l : List SampleNo) (s : SampleNo) → plain (l ++ s ∷ []) ≡ plain l ++ s.0 ∷ []
+unfolding plain
+plain_one_more [] s = refl
+plain_one_more (t ∷ l) s = rw (plain_one_more l s)
+
+outside_one_more : (test : ℕ → Bool) (l : List SampleNo) (s : SampleNo) → outside test (plain (l ++ s ∷ [])) ≡ outside test (plain l) ++ cond (test s.0) [] (s.0 ∷ [])
 unfolding outside plain
-outside-plain test [] = refl
-outside-plain test (s ∷ l) = rw (outside-plain test l) (go (test s.0) (filter (λ q. not (test q.0)) l))
+outside_one_more test [] s = refl
+outside_one_more test (t ∷ l) s = rw (outside_one_more test l s) (go (test t.0) (outside test (plain l)) (cond (test s.0) [] (s.0 ∷ [])))
   where
-    go : (b : Bool) (m : List SampleNo) → cond b (plain m) (s.0 ∷ plain m) ≡ plain (cond (not b) (s ∷ m) m)
-    go true m = refl
-    go false m = refl
+    go : (b : Bool) (x y : List ℕ) → cond b (x ++ y) (t.0 ∷ (x ++ y)) ≡ cond b x (t.0 ∷ x) ++ y
+    go true x y = refl
+    go false x y = refl
+
+or-none : (a : Bool) → (a || false) ≡ a
+or-none true = refl
+or-none false = refl
+
+any_one_more : (test : ℕ → Bool) (l : List SampleNo) (s : SampleNo) → any_no test (plain (l ++ s ∷ [])) ≡ (any_no test (plain l) || test s.0)
+unfolding any_no plain
+any_one_more test [] s = or-none (test s.0)
+any_one_more test (t ∷ l) s = rw (any_one_more test l s) (go (test t.0) (any_no test (plain l)) (test s.0))
+  where
+    go : (a b c : Bool) → (a || (b || c)) ≡ ((a || b) || c)
+    go true b c = refl
+    go false b c = refl
+
+-- A search for one that passes a test: none so far, and one at i.
+pub none_more : (test : ℕ → Bool) (items : List SampleNo) (i : ℕ) (d : SampleNo) → i < length items → any_no test (plain (take i items)) ≡ false
+    → test (get_or items i d).0 ≡ false → any_no test (plain (take (i + 1) items)) ≡ false
+none_more test items i d h so_far e = rw (take_more items i d h, any_one_more test (take i items) (get_or items i d), so_far, e)
+
+pub any_at : (test : ℕ → Bool) (items : List SampleNo) (i : ℕ) (d : SampleNo) → i < length items → test (get_or items i d).0 ≡ true → any_no test (plain items) ≡ true
+unfolding any_no plain
+any_at test [] i d h e = absurd (omega arith)
+any_at test (s ∷ l) zero d h e = rw e
+any_at test (s ∷ l) (suc i) d h e = rw (any_at test l i d (omega arith) e) (go (test s.0))
+  where
+    go : (b : Bool) → (b || true) ≡ true
+    go true = refl
+    go false = refl
+
+-- Those outside a set, written to the front of a list one by one: the next one is in the set, or it is written at k.
+module _ (test : ℕ → Bool) (items out : List SampleNo) (i k : ℕ) (d : SampleNo) (h : i < length items) (room : k < length out)
+    (so_far : plain (take k out) ≡ outside test (plain (take i items))) where
+  pub one_gone : test (get_or items i d).0 ≡ true → plain (take k out) ≡ outside test (plain (take (i + 1) items))
+  one_gone e = rw (take_more items i d h, outside_one_more test (take i items) (get_or items i d), e, append-nil) so_far
+
+  pub one_kept : test (get_or items i d).0 ≡ false → plain (take (k + 1) (set out k (get_or items i d))) ≡ outside test (plain (take (i + 1) items))
+  one_kept e =
+      rw (take_more items i d h, outside_one_more test (take i items) (get_or items i d), e, add-one, take-suc-set out k (get_or items i d) room)
+      (plain_one_more (take k out) (get_or items i d) ∙ rw so_far)
 
 or_swap : (a b c : Bool) → (a || (b || c)) ≡ (b || (a || c))
 or_swap a b c = grind arith

@@ -1,16 +1,21 @@
 -- A constraint of the code as sample numbers, and the rules of a loss and of redundancy on numbers.
-use Rattle.std.specs.Prelude.{Option as CodeOption, None, Some, Bool, true, false, cond, ◌&&◌, ◌||◌, List, [], ◌∷◌, ℕ, eqb}
+use Rattle.std.specs.Prelude.{Option as CodeOption, None, Some, Bool, true, false, cond, ◌&&◌, ◌||◌, List, [], ◌∷◌, ℕ, eqb, take}
 use Rattle.std.proofs.Math.Option.{Option, none, some}
 use Rattle.sample.specs.declared.numbers.SampleNo.{SampleNo}
 use Rattle.sample.specs.declared.numbers.Sign.{Sign}
 use Rattle.sample.specs.declared.numbers.Sign.TheVariants.{Positive, Negative}
 use Rattle.constraint.specs.declared.cons.Cons.{Cons}
+use Rattle.constraint.specs.declared.left.Left.{Left}
 use Rattle.constraint.specs.declared.loss.Outcome.{Outcome}
 use Rattle.constraint.specs.declared.loss.Outcome.TheVariants.{Untouched, Stays, Dropped, Waits, Contradiction}
 
 pub record Numbered : Type 0 where
   pub left : List ℕ
   pub right : Option ℕ
+
+-- Those of a left, which lie in front.
+abbrev pub samples_of : Left → List SampleNo
+samples_of l = take l.count l.numbers
 
 unfoldable pub plain : List SampleNo → List ℕ
 plain [] = []
@@ -22,7 +27,7 @@ right_no (Some q) = some q.0
 
 unfoldable pub numbers_of : Cons → Numbered
 unfolding plain right_no
-numbers_of c = record { left = plain c.left.items; right = right_no c.right }
+numbers_of c = record { left = plain (samples_of c.left); right = right_no c.right }
 
 unfoldable pub is_in : ℕ → List ℕ → Bool
 is_in k [] = false

@@ -5,15 +5,15 @@ ghost use Rattle.words.specs.Sets.{in_set, Holds};
 ghost use Rattle.constraint.specs.declared.cons.Cons.{Cons};
 ghost use Rattle.constraint.specs.Numbered.{numbers_of, is_in, any_no, outside, right_is, right_outside, fate_no, says_no, needless_no, names_no};
 
+use crate::left::Left;
 use crate::loss::{Loss, Outcome, loss_of, remaining};
-use arrayvec::ArrayVec;
 use sample::{SampleNo, Sign};
 use words::Set;
 
-// At most sixteen left samples, and the right one if there is one. A list of fixed capacity takes no heap; its copy would be a call that can fail.
-#[derive(PartialEq, Eq, Debug, Drop)]
+// At most sixteen left samples, and the right one if there is one.
+#[derive(Clone, Copy, PartialEq, Eq, Debug)]
 pub struct Cons {
-    pub left: ArrayVec<SampleNo, 16>,
+    pub left: Left,
     pub right: Option<SampleNo>,
 }
 
@@ -22,7 +22,7 @@ impl Cons {
         ensures { ((numbers_of result).left ≡ []) × ((numbers_of result).right ≡ none) }
     {
         Cons {
-            left: ArrayVec::new(),
+            left: Left::none(),
             right: None,
         }
     }
@@ -31,7 +31,7 @@ impl Cons {
     pub fn left_in(&self, set: Set) -> bool
         ensures { result ≡ any_no (in_set set) (numbers_of self.now).left }
     {
-        self.left.iter().any(|s| set.has(s.0))
+        self.left.samples().iter().any(|s| set.has(s.0))
     }
 
     // Whether the right sample is in the set.
@@ -53,7 +53,10 @@ impl Cons {
     pub fn left_set(&self) -> Set
         ensures { (k : ℕ) → in_set result k ≡ is_in k (numbers_of self.now).left }
     {
-        self.left.iter().fold(Set::empty(), |out, s| out.with(s.0))
+        self.left
+            .samples()
+            .iter()
+            .fold(Set::empty(), |out, s| out.with(s.0))
     }
 
     // All its samples as a set.
@@ -71,21 +74,32 @@ impl Cons {
     pub fn without(mut self, set: Set) -> Cons
         ensures { ((numbers_of result).left ≡ outside (in_set set) (numbers_of self).left) × ((numbers_of result).right ≡ right_outside (in_set set) (numbers_of self).right) }
     {
-        self.left.retain(|s| !set.has(s.0));
+        self.left = self.left.outside(set);
         self.right = self.right.filter(|s| !set.has(s.0));
         self
     }
 
     // Loses the samples of the set, which now have the sign g.
+    // A loss that decides is on one side alone, and no left sample is read twice.
     #[tactic(auto, unfolding(crate::specs::Numbered::says_no, crate::specs::Numbered::fate_no, crate::specs::Numbered::judged_no, crate::specs::Losses::loss_no), using(crate::proofs::Losing::remaining_touched))]
     pub fn loses(self, set: Set, g: Sign) -> Outcome
         ensures fate { says_no result ≡ fate_no (in_set set) g (numbers_of self) }
         ensures untouched { (c : Cons) → result ≡ Outcome.Untouched c → c ≡ self }
     {
-        match loss_of(self.left_in(set), self.right_in(set), g) {
+        let right = self.right_in(set);
+        let at = self.left.before(set);
+        match loss_of(at < usize::from(self.left.count), right, g) {
             Loss::Nothing => Outcome::Untouched(self),
             Loss::Drops => Outcome::Dropped,
-            Loss::Decides => remaining(self.without(set)),
+            Loss::Decides => {
+                let mut rest = self;
+                if right {
+                    rest.right = None;
+                } else {
+                    rest.left = self.left.outside_from(at, set);
+                }
+                remaining(rest)
+            }
         }
     }
 }

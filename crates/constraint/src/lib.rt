@@ -2,7 +2,9 @@
 #![tactic(auto)]
 
 mod cons;
+mod left;
 mod loss;
 
 pub use cons::{Cons, needless};
+pub use left::Left;
 pub use loss::Outcome;

@@ -7,7 +7,7 @@ use crate::cons::Cons;
 use sample::{SampleNo, Sign};
 
 // What becomes of a constraint that loses samples.
-#[derive(PartialEq, Eq, Debug, Drop)]
+#[derive(Clone, Copy, PartialEq, Eq, Debug)]
 pub enum Outcome {
     Untouched(Cons),
     Stays(Cons),
@@ -41,7 +41,7 @@ pub fn loss_of(left: bool, right: bool, g: Sign) -> Loss
 pub fn remaining(rest: Cons) -> Outcome
     ensures { says_no result ≡ remaining_no (numbers_of rest).left (numbers_of rest).right }
 {
-    match (rest.left.as_slice(), rest.right) {
+    match (rest.left.samples(), rest.right) {
         ([], None) => Outcome::Contradiction,
         ([], Some(q)) => Outcome::Waits(Sign::Positive, q),
         ([s], None) => Outcome::Waits(Sign::Negative, *s),

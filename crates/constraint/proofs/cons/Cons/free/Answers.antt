@@ -5,4 +5,4 @@ use Rattle.constraint.proofs.cons.Cons.free.Goals as goal
 
 pub returns : goal.returns
 unfolding numbers_of plain right_no
-returns c = (rw c.new.ensures, refl)
+returns c = (rw c.none.ensures, refl)
