@@ -81,6 +81,29 @@ one_bit_put f r s k w x keep old changed put n l = go (eqb (n / 64) (k / 64)) re
         let number : eqb n k ≡ false = ne_eqb n k (λ h. other (ap (λ (m : ℕ). m / 64) h)) in
         rw (kept, number) (sym (keep (bit (word_at s (n / 64)) (n % 64))))
 
+-- One word that has bit k % 64 alone, among words that are 0: the set of k alone.
+pub one_bit_alone : (r : Set) (k x : ℕ) → Bits x (λ i. eqb i (k % 64))
+    → ((j : ℕ) → j < 4 → get_or r.words j 0 ≡ cond (eqb j (k / 64)) x 0) → Holds r (λ n. eqb n k)
+unfolding in_set
+one_bit_alone r k x alone words n l = go (eqb (n / 64) (k / 64)) refl
+  where
+    here : word_at r (n / 64) ≡ cond (eqb (n / 64) (k / 64)) x 0
+    here = sym (word_read r (n / 64) (omega arith)) ∙ words (n / 64) (omega arith)
+
+    go : (b : Bool) → eqb (n / 64) (k / 64) ≡ b → bit (word_at r (n / 64)) (n % 64) ≡ eqb n k
+    go true e =
+        let same : n / 64 ≡ k / 64 = eqb-true (n / 64) (k / 64) e in
+        let word : word_at r (n / 64) ≡ x = rw e at here in
+        let number : eqb n k ≡ eqb (n % 64) (k % 64) =
+        same_truth (eqb n k) (eqb (n % 64) (k % 64)) (λ h. eq-eqb (n % 64) (k % 64) (omega (arith, eqb-true n k h)))
+        (λ h. eq-eqb n k (omega (arith, eqb-true (n % 64) (k % 64) h))) in
+        rw (word, number) (alone (n % 64) (omega arith))
+    go false e =
+        let other : n / 64 ≡ k / 64 → ⊥ = eqb-false (n / 64) (k / 64) e in
+        let word : word_at r (n / 64) ≡ 0 = rw e at here in
+        let number : eqb n k ≡ false = ne_eqb n k (λ h. other (ap (λ (m : ℕ). m / 64) h)) in
+        rw (word, number) (bit_of_zero (n % 64))
+
 -- Past the four words there is nothing.
 pub word_past : (s : Set) (j : ℕ) → 4 ≤ j → word_at s j ≡ 0
 unfolding word_at

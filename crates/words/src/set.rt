@@ -48,20 +48,29 @@ impl Set {
         bit_in(self.word(usize::from(k / 64)), k % 64)
     }
 
+    // The set of k alone. Each word is chosen here too.
+    #[inline]
+    fn only(k: u8) -> Set
+        ensures { Holds result (λ j. eqb j k) }
+    {
+        let bit = one_bit(k % 64);
+        Set {
+            words: array::from_fn(|j| if j == usize::from(k / 64) { bit } else { 0 }),
+        }
+    }
+
     #[inline]
     pub fn with(self, k: u8) -> Set
         ensures { Holds result (λ j. eqb j k || in_set self j) }
     {
-        let j = usize::from(k / 64);
-        self.put(j, self.word(j) | one_bit(k % 64))
+        Set::only(k).join(self)
     }
 
     #[inline]
     pub fn without(self, k: u8) -> Set
         ensures { Holds result (λ j. not (eqb j k) && in_set self j) }
     {
-        let j = usize::from(k / 64);
-        self.put(j, self.word(j) & !one_bit(k % 64))
+        self.minus(Set::only(k))
     }
 
     // Each word of the set with the same word of the other, by f.
