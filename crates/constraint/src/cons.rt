@@ -80,7 +80,7 @@ impl Cons {
     }
 
     // Loses the samples of the set, which now have the sign g.
-    // A loss that decides is on one side alone, and no left sample is read twice.
+    // A loss that decides is on one side alone; on the left it is carried out from the first lost sample on, where the search for it ended.
     #[tactic(auto, unfolding(crate::specs::Numbered::says_no, crate::specs::Numbered::fate_no, crate::specs::Numbered::judged_no, crate::specs::Losses::loss_no), using(crate::proofs::Losing::remaining_touched))]
     pub fn loses(self, set: Set, g: Sign) -> Outcome
         ensures fate { says_no result ≡ fate_no (in_set set) g (numbers_of self) }

@@ -19,7 +19,7 @@ use Rattle.sample.proofs.Fitting.{sorts_length}
 
 -- The declarations: a number below the count has the positions that its signature says, any other is not declared.
 module _ (d : Declared) where
-  declared_length : length (declared_of d) ≡ d.count
+  pub declared_length : length (declared_of d) ≡ d.count
   unfolding declared_of declared_from
   declared_length = tabled_length (sorts_of d) (declared_from d) (λ i. refl) (λ n i. refl) d.count 0
 

@@ -63,7 +63,7 @@ pub fn row_from(row: &[i64; 8]) -> Row
 }
 
 // Mask and six values. A list and a place, not an array of seven: every other number of the list stays as it was.
-// One by one: a `copy_from_slice` of so few asks first whether the two overlap.
+// One by one: for so few a `copy_from_slice` takes longer.
 pub fn row_into(r: Row, out: &mut [i64], at: usize)
     requires { at + 7 ≤ length out.old }
     ensures { out.new ≡ written_at r at out.old }

@@ -8,7 +8,7 @@ ghost use Rattle.sample.specs.Signs.{sign_no};
 #[derive(Clone, Copy, PartialEq, Eq, PartialOrd, Ord, Debug)]
 pub struct PredNo(pub u8);
 
-// `Default`, since a list of fixed capacity fills its free places.
+// `Default`, as a list of fixed capacity asks of what it holds.
 #[repr(C)]
 #[derive(Clone, Copy, Default, PartialEq, Eq, Debug)]
 pub struct SampleNo(pub u8);
